@@ -1,0 +1,192 @@
+-- Steps that pass 12 form a body, and those of a body pass.
+use Prim.Native.Nat.{ℕ, zero, suc, _≤_, _<_}
+use mathlib.Core.Path.{_≡_, refl, sym, ap, ap₂, _∙_, subst}
+use mathlib.Core.Logic.{⊎-elim}
+use mathlib.Core.List.{List, [], _∷_, _++_, reverse, reverse-append, append-assoc, append-nil}
+use mathlib.Core.Bool.{Bool, true, false, not, _&&_, _||_, or-false}
+use native.Mathlib.Omega.{arith}
+use lib.ListN.{length, take, drop}
+use borrow.Author.Tests.{eqb-true, eq-eqb, leb-false, le-leb, lt-leb, not-true, not-false}
+use Rattle.rules.specs.Words.{if_then_else_, _≤?_, _=?_, any, among}
+use Rattle.rules.specs.Sheet.{Step, run, lock, unlock, Task, taskAt, Body, end, aRun, aSection, isLock, without, heldOnTop, held}
+use Rattle.rules.specs.Reading.{read, byte, word, stepOf, misplaced, readSteps, readTask}
+use Rattle.rules.proofs.Reading.{both-read, passed, got, each-task}
+use Rattle.rules.proofs.Laws.{true-false, and-left, and-right, or-cases, or-no}
+use Rattle.rules.specs.Laws.{placed, Nesting}
+
+-- the same test by what is held and whether the last step was a lock
+goes : List ℕ → Bool → List Step → Bool
+goes h b [] = not (1 ≤? length h)
+goes h b (run n ∷ steps) = goes h false steps
+goes h b (lock s ∷ steps) = not (among s h || 4 ≤? length h) && goes (s ∷ h) true steps
+goes h b (unlock s ∷ steps) = not (not (among s (take 1 h)) || b) && goes (without s h) false steps
+
+held-snoc : (before : List ℕ) (steps more : List Step) → heldOnTop before (steps ++ more) ≡ heldOnTop (heldOnTop before steps) more
+unfolding heldOnTop
+held-snoc before [] more = refl
+held-snoc before (run n ∷ steps) more = held-snoc before steps more
+held-snoc before (lock s ∷ steps) more = held-snoc (s ∷ before) steps more
+held-snoc before (unlock s ∷ steps) more = held-snoc (without s before) steps more
+
+afterLock : List Step → Bool
+afterLock before = any isLock (take 1 (reverse before))
+
+after-snoc : (before : List Step) (x : Step) → afterLock (before ++ (x ∷ [])) ≡ isLock x
+unfolding afterLock any
+after-snoc before x = rw (reverse-append before (x ∷ [])) (or-false (isLock x))
+
+placed-goes : (before steps : List Step) → placed before steps ≡ goes (held before) (afterLock before) steps
+unfolding placed goes misplaced held heldOnTop isLock afterLock
+placed-goes before [] = refl
+placed-goes before (run n ∷ steps) = placed-goes (before ++ (run n ∷ [])) steps ∙ ap₂ (λ (h : List ℕ) (b : Bool). goes h b steps) (held-snoc [] before (run n ∷ [])) (after-snoc before (run n))
+placed-goes before (lock s ∷ steps) = ap (λ (x : Bool). not (misplaced before (lock s)) && x)
+    (placed-goes (before ++ (lock s ∷ [])) steps ∙ ap₂ (λ (h : List ℕ) (b : Bool). goes h b steps) (held-snoc [] before (lock s ∷ [])) (after-snoc before (lock s)))
+placed-goes before (unlock s ∷ steps) = ap (λ (x : Bool). not (misplaced before (unlock s)) && x)
+    (placed-goes (before ++ (unlock s ∷ [])) steps ∙ ap₂ (λ (h : List ℕ) (b : Bool). goes h b steps) (held-snoc [] before (unlock s ∷ [])) (after-snoc before (unlock s)))
+
+-- semaphores, no two of them the same: to take away the newest leaves the others
+abbrev Distinct : List ℕ → Type 0
+Distinct [] = Unit {0}
+Distinct (s ∷ h) = (among s h ≡ false) × Distinct h
+
+without-absent : (s : ℕ) (h : List ℕ) → among s h ≡ false → without s h ≡ h
+unfolding without among any
+without-absent s [] e = refl
+without-absent s (u ∷ h) e = go (u =? s) refl (without-absent s h)
+  where
+    go : (b : Bool) → (u =? s) ≡ b → (among s h ≡ false → without s h ≡ h) → (if b then without s h else u ∷ without s h) ≡ u ∷ h
+    go true v k = true-false (among s (u ∷ h)) (rw v refl) e
+    go false v k = ap (λ (x : List ℕ). u ∷ x) (k (let z : (false || among s h) ≡ false = sym (ap (λ (b : Bool). b || among s h) v) ∙ e in z))
+
+without-newest : (s : ℕ) (h : List ℕ) → among s h ≡ false → without s (s ∷ h) ≡ h
+unfolding without
+without-newest s h e = rw (eq-eqb s s refl) (without-absent s h e)
+
+-- a body leaves what is held as it was, and ends in no lock unless it is empty
+flag : Bool → List Step → Bool
+flag b [] = b
+flag b (x ∷ steps) = false
+
+flag-false : (steps : List Step) → flag false steps ≡ false
+unfolding flag
+flag-false [] = refl
+flag-false (x ∷ steps) = refl
+
+flag-some : (b : Bool) (steps : List Step) → 1 ≤ length steps → flag b steps ≡ false
+unfolding flag
+flag-some b [] l = absurd (omega arith)
+flag-some b (x ∷ steps) l = refl
+
+unlock-goes : (s : ℕ) (h : List ℕ) (more : List Step) → among s h ≡ false → goes (s ∷ h) false (unlock s ∷ more) ≡ goes h false more
+unfolding goes among any
+unlock-goes s h more e =
+    let same : (s =? s) ≡ true = eq-eqb s s refl in
+    let left : without s (s ∷ h) ≡ h = without-newest s h e in
+    rw (same, left) refl
+
+body-goes : {h : List ℕ} {steps : List Step} → Body h steps → Distinct h → (b : Bool) (more : List Step) → goes h b (steps ++ more) ≡ goes h (flag b steps) more
+unfolding flag goes
+body-goes end d b more = refl
+body-goes {h} (aRun {rest = rest} β) d b more = body-goes β d false more ∙ ap (λ (c : Bool). goes h c more) (flag-false rest)
+body-goes {h} (aSection {s = s} {inside = inside} {rest = rest} new few some β γ) d b more =
+    rw (new, lt-leb 4 (length h) few)
+    (ap (goes (s ∷ h) true) (append-assoc inside (unlock s ∷ rest) more)
+    ∙ body-goes β (new, d) true (unlock s ∷ (rest ++ more))
+    ∙ ap (λ (c : Bool). goes (s ∷ h) c (unlock s ∷ (rest ++ more))) (flag-some true inside some)
+    ∙ unlock-goes s h (rest ++ more) new
+    ∙ body-goes γ d false more
+    ∙ ap (λ (c : Bool). goes h c more) (flag-false rest))
+
+-- a body goes
+goes-body : (steps : List Step) → Body [] steps → goes [] false steps ≡ true
+unfolding goes
+goes-body steps β = ap (goes [] false) (sym (append-nil steps)) ∙ body-goes β tt false []
+
+-- what goes is a body for each that is held, with its unlock behind it, and a body at last
+Rest : List ℕ → Bool → List Step → Type 0
+Rest [] b steps = Body [] steps
+Rest (s ∷ h) b steps =
+    (inside : List Step) × (rest : List Step) × (steps ≡ inside ++ (unlock s ∷ rest)) × (b ≡ true → 1 ≤ length inside) × Body (s ∷ h) inside × Rest h false rest
+
+rest-run : (n : ℕ) (h : List ℕ) (b : Bool) (steps : List Step) → Rest h false steps → Rest h b (run n ∷ steps)
+unfolding Rest
+rest-run n [] b steps β = aRun β
+rest-run n (s ∷ h) b steps r = (run n ∷ r .0, r .1, ap (λ (x : List Step). run n ∷ x) (r .2), (λ e. omega arith), aRun (r .4), r .5)
+
+rest-section : (s : ℕ) (h : List ℕ) (b : Bool) (inside rest : List Step) → among s h ≡ false → length h < 4 → 1 ≤ length inside → Body (s ∷ h) inside
+    → Rest h false rest → Rest h b (lock s ∷ inside ++ (unlock s ∷ rest))
+unfolding Rest
+rest-section s [] b inside rest new few some β γ = aSection new few some β γ
+rest-section s (u ∷ h) b inside rest new few some β r = (
+  lock s ∷ inside ++ (unlock s ∷ r .0),
+  r .1,
+  ap (λ (x : List Step). lock s ∷ (inside ++ (unlock s ∷ x))) (r .2) ∙ ap (λ (x : List Step). lock s ∷ x) (sym (append-assoc inside (unlock s ∷ r .0) (unlock u ∷ r .1))),
+  (λ e. omega arith),
+  aSection new few some β (r .4),
+  r .5,
+)
+
+or-too : (a b : Bool) → (a || b) ≡ false → b ≡ false
+or-too true b e = true-false true refl e
+or-too false b e = e
+
+newest : (s u : ℕ) → among s (u ∷ []) ≡ true → u ≡ s
+unfolding among any
+newest s u e = ⊎-elim (λ v. eqb-true u s v) (λ v. true-false false v refl) (or-cases (u =? s) false e)
+
+goes-rest : (steps : List Step) (h : List ℕ) (b : Bool) → Distinct h → goes h b steps ≡ true → Rest h b steps
+unfolding goes Rest among any
+goes-rest [] [] b d e = end
+goes-rest [] (s ∷ h) b d e = true-false (1 ≤? suc (length h)) (le-leb 1 (suc (length h)) (omega arith)) (not-true (1 ≤? suc (length h)) e)
+goes-rest (run n ∷ steps) h b d e = rest-run n h b steps (goes-rest steps h false d e)
+goes-rest (lock s ∷ steps) h b d e =
+    let ok = not-true (among s h || 4 ≤? length h) (and-left _ _ e) in
+    let new = or-no (among s h) (4 ≤? length h) ok in
+    let r = goes-rest steps (s ∷ h) true (new, d) (and-right (not (among s h || 4 ≤? length h)) _ e) in
+    subst (λ (xs : List Step). Rest h b (lock s ∷ xs)) (sym (r .2))
+    (rest-section s h b (r .0) (r .1) new (leb-false 4 (length h) (or-too (among s h) (4 ≤? length h) ok)) (r .3 refl) (r .4) (r .5))
+goes-rest (unlock s ∷ steps) [] b d e = true-false false e refl
+goes-rest (unlock s ∷ steps) (u ∷ h) b d e =
+    let ok = not-true (not (among s (u ∷ [])) || b) (and-left _ _ e) in
+    let same = newest s u (not-false (among s (u ∷ [])) (or-no (not (among s (u ∷ []))) b ok)) in
+    let left : without s (u ∷ h) ≡ h = ap (λ (v : ℕ). without v (u ∷ h)) (sym same) ∙ without-newest u h (d .0) in (
+      [],
+      steps,
+      ap (λ (v : ℕ). unlock v ∷ steps) (sym same),
+      (λ t. true-false b t (or-too (not (among s (u ∷ []))) b ok)),
+      end,
+      goes-rest steps h false (d .1) (ap (λ (g : List ℕ). goes g false steps) (sym left) ∙ and-right (not (not (among s (u ∷ [])) || b)) _ e),
+    )
+
+pub nesting : Nesting
+unfolding held afterLock heldOnTop any Rest
+nesting steps = (
+  (λ e. goes-rest steps [] false tt (sym (placed-goes [] steps) ∙ e)),
+  (λ β. placed-goes [] steps ∙ goes-body steps β),
+)
+
+not-and : (a b : Bool) → a ≡ false → b ≡ true → (not a && b) ≡ true
+not-and a b p q = rw (p, q) refl
+
+-- the steps that were read passed 12
+steps-placed : (m i n : ℕ) (before : List Step) (bytes : List ℕ) (steps : List Step) → readSteps m i n before bytes ≡ read steps
+    → (more : List Step) × (steps ≡ before ++ more) × (placed before more ≡ true)
+unfolding readSteps placed
+steps-placed m i zero before bytes steps e =
+    let end = passed 12 i (length before) (1 ≤? length (held before)) _ steps e in
+    ([], sym (append-nil before ∙ got before steps (end .1)), rw (end .0) refl)
+steps-placed m i (suc n) before bytes steps e =
+    let x = stepOf (byte bytes 0) (word bytes 1) in
+    let past11 = passed 11 i (length before) _ _ steps e in
+    let past12 = passed 12 i (length before) _ _ steps (past11 .1) in
+    let r = steps-placed m i n (before ++ (x ∷ [])) (drop 3 bytes) steps (past12 .1) in
+    (x ∷ r .0, r .1 ∙ append-assoc before (x ∷ []) (r .0), not-and (misplaced before x) _ (past12 .0) (r .2))
+
+pub task-placed : (m i : ℕ) (bytes : List ℕ) (x : Task × List ℕ) → readTask m i bytes ≡ read x → placed [] (x .0 .steps) ≡ true
+unfolding readTask
+task-placed m i bytes x e =
+    let past9 = passed 9 i 0 _ _ x (passed 8 i 0 _ _ x (passed 7 i 0 _ _ x e .1) .1) in
+    let past7 = passed 7 i 0 _ _ x (passed 10 i 0 _ _ x (past9 .1) .1) in
+    let steps = both-read (readSteps m i (byte bytes 4) [] (drop 5 bytes)) _ x (past7 .1) in
+    let r = steps-placed m i (byte bytes 4) [] (drop 5 bytes) (steps .0) (steps .1) in
+    ap (λ (y : Task × List ℕ). placed [] (y .0 .steps)) (sym (got _ x (steps .2))) ∙ ap (placed []) (r .1) ∙ r .2

@@ -1,0 +1,110 @@
+-- WHAT EACH CALL ANSWERS, refused calls too.
+use Prim.Native.Nat.{ℕ, suc}
+use mathlib.Core.List.{List}
+use mathlib.Core.Bool.{true, false, not}
+use lib.ListN.{length, replicate}
+use lib.IntN.{ℤ, pos, negsuc}
+use Rattle.rules.specs.Words.{if_then_else_, _<?_, _=?_, row}
+use Rattle.rules.specs.Sheet.{Sheet}
+use Rattle.rules.specs.Reading.{Reading, read, refused, refusal, refuse_when_, refuse_of_at_when_, _>>=_, _>>_, readSheet}
+use Rattle.rules.specs.Record.{blank, start, possible}
+use Rattle.rules.specs.Choice.{ceiling}
+use Rattle.rules.specs.Tick.{tick}
+use Rattle.rules.specs.Run.{after, written}
+use Rattle.rules.specs.Bounds.{bound, laxity}
+use Rattle.rules.specs.declared.State.{State}
+use Rattle.rules.specs.declared.Refusal.{Refusal}
+use Rattle.rules.specs.declared.Checked.{Checked}
+use Rattle.rules.specs.declared.Ceilings.{Ceilings}
+use Rattle.rules.specs.declared.Bounds.{Bounds}
+use Rattle.rules.specs.declared.Laxity.{Laxity}
+use Rattle.rules.specs.declared.Laxities.{Laxities}
+use Rattle.rules.specs.declared.Ticked.{Ticked}
+use Rattle.rules.specs.declared.Told.{Told}
+use Rattle.rules.specs.declared.Ran.{Ran}
+
+-- A refusal gives its number, the task's rank and the step's index; where there is none, all three are zero.
+unfoldable pub why : {A : Type 0} → Reading A → Refusal
+why (read a) = refusal 0 0 0
+why (refused x) = x
+
+-- A field of the answer, made of the sheet; all other fields of a refused answer are zero or as they came.
+unfoldable pub made : {A B : Type 0} → Reading A → B → (A → B) → B
+made (read a) other f = f a
+made (refused x) other f = other
+
+-- Sixteen values: one for each of the sheet's tasks, zero behind them.
+unfoldable pub byRank : {A : Type 0} → A → (Sheet → ℕ → A) → Sheet → List A
+byRank zero f sheet = row 16 λ i. if i <? length (sheet .tasks) then f sheet i else zero
+
+-- The sheet check: how many tasks and semaphores, and the mode.
+unfoldable pub check : (bytes : List ℕ) → Checked
+check bytes =
+    let r = readSheet bytes in
+    record {
+      refusal = why r;
+      tasks = made r 0 λ sheet. length (sheet .tasks);
+      semaphores = made r 0 λ sheet. sheet .semaphores;
+      mode = made r 0 λ sheet. sheet .mode;
+    }
+
+-- Sixteen ceilings, one for each semaphore number.
+unfoldable pub ceilings : (bytes : List ℕ) → Ceilings
+ceilings bytes =
+    let r = readSheet bytes in
+    record { refusal = why r; ceilings = made r (replicate 16 0) λ sheet. row 16 (ceiling sheet) }
+
+unfoldable pub bounds : (bytes : List ℕ) → Bounds
+bounds bytes =
+    let r = readSheet bytes in
+    record { refusal = why r; bounds = made r (replicate 16 0) (byRank 0 bound) }
+
+-- A laxity may be negative: its sign and its size.
+unfoldable pub signed : ℤ → Laxity
+signed (pos n) = record { below = false; size = n }
+signed (negsuc n) = record { below = true; size = suc n }
+
+unfoldable pub laxities : (bytes : List ℕ) → Laxities
+laxities bytes =
+    let r = readSheet bytes in
+    let zero = signed (pos 0) in
+    record { refusal = why r; laxities = made r (replicate 16 zero) (byRank zero λ sheet i. signed (laxity sheet i)) }
+
+-- A call with a state tests 16, then 17. Refused, the state comes back as the one that came.
+unfoldable pub readTick : (bytes : List ℕ) → State → Reading Sheet
+readTick bytes st = do
+  sheet ← readSheet bytes
+  refuse 16 when not (possible sheet st)
+  refuse 17 when st .t =? 60000
+  read sheet
+
+unfoldable pub ticked : (bytes : List ℕ) → State → Ticked
+ticked bytes st =
+    let r = readTick bytes st in
+    record { refusal = why r; runner = made r 0 λ sheet. tick sheet st .last; state = made r st λ sheet. tick sheet st }
+
+-- The record stands in the caller's memory and a tick updates it there. Both forms agree.
+unfoldable pub told : (bytes : List ℕ) → State → Told
+told bytes st = record { refusal = ticked bytes st .refusal; runner = ticked bytes st .runner }
+
+unfoldable pub recordAfter : (bytes : List ℕ) → State → State
+recordAfter bytes st = ticked bytes st .state
+
+-- A call with a horizon tests 14, then 15. Refused, the record is zero and no lent byte differs.
+unfoldable pub readRun : (bytes : List ℕ) (horizon : ℕ) (buffer : List ℕ) → Reading Sheet
+readRun bytes horizon buffer = do
+  sheet ← readSheet bytes
+  refuse 14 when 60000 <? horizon
+  refuse 15 when length buffer <? horizon
+  read sheet
+
+abbrev pub noState : State
+noState = record { t = 0; switches = 0; last = 0; tasks = replicate 16 blank }
+
+unfoldable pub ran : (bytes : List ℕ) (horizon : ℕ) (buffer : List ℕ) → Ran
+ran bytes horizon buffer =
+    let r = readRun bytes horizon buffer in
+    record { refusal = why r; state = made r noState λ sheet. after horizon sheet start }
+
+unfoldable pub bufferAfter : (bytes : List ℕ) (horizon : ℕ) (buffer : List ℕ) → List ℕ
+bufferAfter bytes horizon buffer = made (readRun bytes horizon buffer) buffer λ sheet. written horizon sheet start buffer

@@ -1,0 +1,89 @@
+-- WHAT FOLLOWS: laws that make the definitions trustworthy. Each is proved in proofs/.
+use Prim.Native.Nat.{ℕ, _*_, _≤_, _<_}
+use mathlib.Core.Path.{_≡_}
+use mathlib.Core.Logic.{_↔_}
+use mathlib.Core.List.{List, [], _∷_, _++_}
+use mathlib.Core.Bool.{Bool, true, false, not, _&&_}
+use lib.ListN.{length}
+use lib.IntN.{ℤ}
+use lib.Signed.{nonNeg}
+use Rattle.rules.specs.Words.{_≤?_}
+use Rattle.rules.specs.Sheet.{Step, run, lock, unlock, Task, Sheet, taskAt, Body, held}
+use Rattle.rules.specs.Reading.{read, misplaced, readSheet}
+use Rattle.rules.specs.Record.{start, possible}
+use Rattle.rules.specs.Choice.{Runner, Walks, topJob, runner}
+use Rattle.rules.specs.Tick.{tick}
+use Rattle.rules.specs.Bounds.{demand, laxity}
+use Rattle.rules.specs.declared.TaskRecord.{TaskRecord}
+use Rattle.rules.specs.declared.State.{State}
+
+-- 12 is given nowhere: no step is misplaced behind those before it, and no section is open at the end.
+unfoldable pub placed : (before steps : List Step) → Bool
+placed before [] = not (1 ≤? length (held before))
+placed before (x ∷ steps) = not (misplaced before x) && placed (before ++ (x ∷ [])) steps
+
+-- 12 is given exactly for steps that form no body.
+abbrev pub Nesting : Type 0
+Nesting = (steps : List Step) → (placed [] steps ≡ true) ↔ Body [] steps
+
+-- Every element of a row.
+abbrev pub All : {A : Type 0} → (A → Type 0) → List A → Type 0
+All P [] = Unit {0}
+All P (x ∷ xs) = P x × All P xs
+
+-- Document 01's limits on a step and on a task.
+abbrev pub StepLimits : (semaphores : ℕ) → Step → Type 0
+StepLimits m (run n) = (1 ≤ n) × (n ≤ 1000)
+StepLimits m (lock s) = s < m
+StepLimits m (unlock s) = s < m
+
+pub record TaskLimits (semaphores : ℕ) (task : Task) : Type 0 where
+  pub periodFrom : 1 ≤ task .period
+  pub periodTo : task .period ≤ 10000
+  pub offset : task .offset < task .period
+  pub stepsFrom : 1 ≤ length (task .steps)
+  pub stepsTo : length (task .steps) ≤ 64
+  pub steps : All (StepLimits semaphores) (task .steps)
+  pub body : Body [] (task .steps)
+
+-- Document 01's limits on a sheet. The longest has 3,160 bytes.
+pub record Limits (bytes : List ℕ) (sheet : Sheet) : Type 0 where
+  pub tasksFrom : 1 ≤ length (sheet .tasks)
+  pub tasksTo : length (sheet .tasks) ≤ 16
+  pub semaphores : sheet .semaphores ≤ 16
+  pub mode : sheet .mode ≤ 1
+  pub each : (i : ℕ) → i < length (sheet .tasks) → TaskLimits (sheet .semaphores) (taskAt sheet i)
+  pub size : length bytes ≤ 3160
+
+abbrev pub AcceptedWithinLimits : Type 0
+AcceptedWithinLimits = (bytes : List ℕ) (sheet : Sheet) → readSheet bytes ≡ read sheet → Limits bytes sheet
+
+-- Rule 4 as computed finds what document 01 says: the first candidate that may go, or a candidate that comes round again.
+abbrev pub WalksToRunner : Type 0
+WalksToRunner = (sheet : Sheet) (records : List TaskRecord) → topJob records < 16 → (x : Runner)
+    → (runner sheet records ≡ x) ↔ Walks sheet records [] (topJob records) x
+
+-- The start record is possible, and a tick of a possible state below tick 60,000 gives a possible state.
+abbrev pub StartPossible : Type 0
+StartPossible = (bytes : List ℕ) (sheet : Sheet) → readSheet bytes ≡ read sheet → possible sheet start ≡ true
+
+abbrev pub TickPossible : Type 0
+TickPossible = (bytes : List ℕ) (sheet : Sheet) → readSheet bytes ≡ read sheet
+    → (st : State) → possible sheet st ≡ true → st .t < 60000 → possible sheet (tick sheet st) ≡ true
+
+-- A point of task i: l times the period of task k, k at most i, l from 1, at most task i's period.
+pub record Point (sheet : Sheet) (i t : ℕ) : Type 0 where
+  pub k : ℕ
+  pub l : ℕ
+  pub rank : k ≤ i
+  pub from : 1 ≤ l
+  pub time : t ≡ l * taskAt sheet k .period
+  pub within : t ≤ taskAt sheet i .period
+
+-- Laxity is negative exactly if no point carries its demand.
+abbrev pub Negative : ℤ → Type 0
+Negative z = nonNeg z ≡ false
+
+abbrev pub NegativeExactly : Type 0
+NegativeExactly = (bytes : List ℕ) (sheet : Sheet) → readSheet bytes ≡ read sheet → (i : ℕ) → i < length (sheet .tasks)
+    → Negative (laxity sheet i) ↔ ((t : ℕ) → Point sheet i t → t < demand sheet i t)

@@ -1,0 +1,91 @@
+-- THE RECORD OF A RUN.
+use Prim.Native.Nat.{ℕ, _+_, max}
+use mathlib.Core.List.{List, [], _∷_}
+use mathlib.Core.Bool.{Bool, true, false, not, _&&_, _||_}
+use lib.ListN.{length, getD, take, drop, replicate}
+use Rattle.rules.specs.Words.{if_then_else_, _<?_, _≤?_, _=?_, _⇒_, within, every, all, among}
+use Rattle.rules.specs.Sheet.{Step, run, lock, unlock, Task, Sheet, taskAt, held}
+use Rattle.rules.specs.declared.Job.{Job}
+use Rattle.rules.specs.declared.Counts.{Counts}
+use Rattle.rules.specs.declared.TaskRecord.{TaskRecord}
+use Rattle.rules.specs.declared.State.{State}
+
+-- At the start everything is zero, nobody is pending, and the last runner is 255.
+abbrev pub noJob : Job
+noJob = record { pending = false; position = 0; left = 0; release = 0 }
+
+abbrev pub noCounts : Counts
+noCounts = record { releases = 0; completions = 0; misses = 0; ran = 0; blocked = 0; worst = 0 }
+
+abbrev pub blank : TaskRecord
+blank = record { job = noJob; counts = noCounts }
+
+abbrev pub start : State
+start = record { t = 0; switches = 0; last = 255; tasks = replicate 16 blank }
+
+-- The record of a rank.
+unfoldable pub recordAt : List TaskRecord → (i : ℕ) → TaskRecord
+recordAt records i = getD records i blank
+
+-- The position is the index of the next step: the steps before it, and the steps from it on.
+unfoldable pub behind : Task → Job → List Step
+behind task j = take (j .position) (task .steps)
+
+unfoldable pub ahead : Task → Job → List Step
+ahead task j = drop (j .position) (task .steps)
+
+-- A pending job holds what the steps before its position have locked and not unlocked.
+unfoldable pub carries : Task → Job → (s : ℕ) → Bool
+carries task j s = j .pending && among s (held (behind task j))
+
+unfoldable pub holds : Sheet → List TaskRecord → (i s : ℕ) → Bool
+holds sheet records i s = carries (taskAt sheet i) (recordAt records i .job) s
+
+-- The numbers of a job, and the counts with the worst response.
+unfoldable pub place : Job → List ℕ
+place j = j .position ∷ j .left ∷ j .release ∷ []
+
+unfoldable pub counted : Counts → List ℕ
+counted c = c .releases ∷ c .completions ∷ c .misses ∷ c .ran ∷ c .blocked ∷ c .worst ∷ []
+
+unfoldable pub zeros : List ℕ → Bool
+zeros xs = all (λ x. x =? 0) xs
+
+-- every count and worst response is at most t;
+unfoldable pub countsFit : (t : ℕ) → Counts → Bool
+countsFit t c = all (λ x. x ≤? t) (counted c)
+
+-- the last runner is a rank below n, 254 or 255;
+unfoldable pub runnerFits : (n x : ℕ) → Bool
+runnerFits n x = x <? n || x =? 254 || x =? 255
+
+-- records at n and above are zero;
+unfoldable pub zeroRecord : TaskRecord → Bool
+zeroRecord r = not (r .job .pending) && zeros (place (r .job)) && zeros (counted (r .counts))
+
+-- (a pending one) stands at a run with 1 to its full length left, or at a lock with 0 left;
+unfoldable pub standsWell : (ahead : List Step) (left : ℕ) → Bool
+standsWell [] left = false
+standsWell (run n ∷ steps) left = within 1 n left
+standsWell (lock s ∷ steps) left = left =? 0
+standsWell (unlock s ∷ steps) left = false
+
+-- a task not pending has position, left and release tick zero; a pending one has a release tick below t, and stands well;
+unfoldable pub jobFits : (t : ℕ) → Task → Job → Bool
+jobFits t task j = if j .pending then j .release <? t && standsWell (ahead task j) (j .left) else zeros (place j)
+
+unfoldable pub recordFits : Sheet → (t i : ℕ) → TaskRecord → Bool
+recordFits sheet t i r = countsFit t (r .counts) && jobFits t (taskAt sheet i) (r .job) && (length (sheet .tasks) ≤? i ⇒ zeroRecord r)
+
+-- no semaphore is held by two.
+unfoldable pub noneHeldByTwo : Sheet → List TaskRecord → Bool
+noneHeldByTwo sheet records = every 16 λ s. every 16 λ i. every 16 λ j. holds sheet records i s && holds sheet records j s ⇒ i =? j
+
+-- A state is possible when: t is at most 60,000; every count is at most t, that of switches too; and all of the above.
+unfoldable pub possible : Sheet → State → Bool
+possible sheet st =
+    st .t ≤? 60000
+    && st .switches ≤? st .t
+    && runnerFits (length (sheet .tasks)) (st .last)
+    && every 16 (λ i. recordFits sheet (st .t) i (recordAt (st .tasks) i))
+    && noneHeldByTwo sheet (st .tasks)

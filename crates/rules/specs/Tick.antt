@@ -1,0 +1,99 @@
+-- ONE TICK: what it does with the runner, rules 1, 5, 6 and 7.
+use Prim.Native.Nat.{ℕ, _+_, _-_, _%_, max}
+use mathlib.Core.List.{List}
+use mathlib.Core.Bool.{Bool, true, false, not, _&&_}
+use lib.ListN.{length, drop}
+use Rattle.rules.specs.Words.{if_then_else_, _<?_, _≤?_, _=?_, row, leading}
+use Rattle.rules.specs.Sheet.{Task, Sheet, taskAt, isLock, isUnlock}
+use Rattle.rules.specs.Record.{noJob, recordAt, ahead}
+use Rattle.rules.specs.Choice.{Runner, job, stuck, idle, runnerByte, full, runner}
+use Rattle.rules.specs.declared.Job.{Job}
+use Rattle.rules.specs.declared.Counts.{Counts}
+use Rattle.rules.specs.declared.TaskRecord.{TaskRecord}
+use Rattle.rules.specs.declared.State.{State}
+
+-- A job that stands at a step.
+abbrev pub standing : (position left release : ℕ) → Job
+standing position left release = record { pending = true; position = position; left = left; release = release }
+
+-- Releases, misses, ticks run, ticks blocked rise by one.
+abbrev pub releasesUp : Counts → Counts
+releasesUp c = record { releases = c .releases + 1; completions = c .completions; misses = c .misses; ran = c .ran; blocked = c .blocked; worst = c .worst }
+
+abbrev pub missesUp : Counts → Counts
+missesUp c = record { releases = c .releases; completions = c .completions; misses = c .misses + 1; ran = c .ran; blocked = c .blocked; worst = c .worst }
+
+abbrev pub ranUp : Counts → Counts
+ranUp c = record { releases = c .releases; completions = c .completions; misses = c .misses; ran = c .ran + 1; blocked = c .blocked; worst = c .worst }
+
+abbrev pub blockedUp : Counts → Counts
+blockedUp c = record { releases = c .releases; completions = c .completions; misses = c .misses; ran = c .ran; blocked = c .blocked + 1; worst = c .worst }
+
+-- Completions rise by one, the worst response is the larger of old and new.
+abbrev pub completionsUp : (response : ℕ) → Counts → Counts
+completionsUp response c = record { releases = c .releases; completions = c .completions + 1; misses = c .misses; ran = c .ran; blocked = c .blocked; worst = max (c .worst) response }
+
+-- 1. Task i has a release at t when t is at least its offset and t minus offset is a multiple of the period.
+unfoldable pub releasesAt : (t : ℕ) → Task → Bool
+releasesAt t task = task .offset ≤? t && (t - task .offset) % task .period =? 0
+
+-- Its releases rise by one. If it is pending, misses rise by one and no job starts.
+-- Otherwise a job starts at step 0, released at t, with ticks left as in rule 5.
+unfoldable pub released : (t : ℕ) → Task → TaskRecord → TaskRecord
+released t task r =
+    if not (releasesAt t task) then r else
+    if r .job .pending then record { job = r .job; counts = missesUp (releasesUp (r .counts)) } else
+    record { job = standing 0 (full (task .steps)) t; counts = releasesUp (r .counts) }
+
+unfoldable pub afterReleases : Sheet → State → List TaskRecord
+afterReleases sheet st = row 16 λ i.
+    let r = recordAt (st .tasks) i in
+    if i <? length (sheet .tasks) then released (st .t) (taskAt sheet i) r else r
+
+-- 5. The runner takes the locks before its next run,
+unfoldable pub nextRun : Task → Job → ℕ
+nextRun task j = j .position + leading isLock (ahead task j)
+
+-- which has so many ticks left,
+unfoldable pub leftOfRun : Task → Job → ℕ
+leftOfRun task j = if nextRun task j =? j .position then j .left else full (drop (nextRun task j) (task .steps))
+
+-- spends one tick, and if that run is used up takes the unlocks that follow, at once.
+unfoldable pub behindUnlocks : Task → Job → ℕ
+behindUnlocks task j = nextRun task j + 1 + leading isUnlock (drop (nextRun task j + 1) (task .steps))
+
+-- At the end of its steps it completes: completions rise by one, the response is t + 1 minus its release tick, the worst
+-- response is the larger of old and new, and the task is no longer pending, with position, left and release tick zero.
+-- Otherwise it stands at its next step, with a run's full length left or, at a lock, 0.
+unfoldable pub advanced : (t : ℕ) → Task → TaskRecord → TaskRecord
+advanced t task r =
+    let j = r .job in
+    let next = behindUnlocks task j in
+    if 1 <? leftOfRun task j then record { job = standing (nextRun task j) (leftOfRun task j - 1) (j .release); counts = r .counts } else
+    if next <? length (task .steps) then record { job = standing next (full (drop next (task .steps))) (j .release); counts = r .counts } else
+    record { job = noJob; counts = completionsUp (t + 1 - j .release) (r .counts) }
+
+-- 6. Its ticks run rise by one. Each pending job of smaller rank than a running job is blocked for this tick.
+unfoldable pub spent : Runner → (t i : ℕ) → Task → TaskRecord → TaskRecord
+spent (job x) t i task r =
+    let ran = advanced t task r in
+    if i =? x then record { job = ran .job; counts = ranUp (ran .counts) } else
+    if i <? x && r .job .pending then record { job = r .job; counts = blockedUp (r .counts) } else r
+spent stuck t i task r = r
+spent idle t i task r = r
+
+unfoldable pub afterRunner : Runner → Sheet → (t : ℕ) → List TaskRecord → List TaskRecord
+afterRunner x sheet t records = row 16 λ i. spent x t i (taskAt sheet i) (recordAt records i)
+
+-- 7. A switch is counted when the runner differs from the last runner, idle included. Then t rises by one.
+unfoldable pub closed : State → (x : ℕ) → List TaskRecord → State
+closed st x records =
+    let switches = if x =? st .last then st .switches else st .switches + 1 in
+    record { t = st .t + 1; switches = switches; last = x; tasks = records }
+
+-- One tick: the releases, the choice of the runner, and what is done with it.
+unfoldable pub tick : Sheet → State → State
+tick sheet st =
+    let records = afterReleases sheet st in
+    let x = runner sheet records in
+    closed st (runnerByte x) (afterRunner x sheet (st .t) records)

@@ -1,0 +1,92 @@
+// The public types of the simulator. What they mean stands in specs/, which follows document 01.
+
+// The job of a task, all zero where none is pending: the index of its next step, the ticks left of that step, and the tick
+// of its release.
+pub struct Job {
+    pub pending: bool,
+    pub position: u8,
+    pub left: u16,
+    pub release: u16,
+}
+
+// What a run counts for a task, with the worst response.
+pub struct Counts {
+    pub releases: u16,
+    pub completions: u16,
+    pub misses: u16,
+    pub ran: u16,
+    pub blocked: u16,
+    pub worst: u16,
+}
+
+// One task in the record of a run.
+pub struct TaskRecord {
+    pub job: Job,
+    pub counts: Counts,
+}
+
+// The record of a run: the tick, the switches, the last runner and the tasks by rank.
+pub struct State {
+    pub t: u16,
+    pub switches: u16,
+    pub last: u8,
+    pub tasks: [TaskRecord; 16],
+}
+
+// Why a call is turned away: all zero where it is not.
+pub struct Refusal {
+    pub number: u8,
+    pub rank: u8,
+    pub step: u8,
+}
+
+// Of a sheet: how many tasks and semaphores, and the mode.
+pub struct Checked {
+    pub refusal: Refusal,
+    pub tasks: u8,
+    pub semaphores: u8,
+    pub mode: u8,
+}
+
+// The ceiling of each semaphore.
+pub struct Ceilings {
+    pub refusal: Refusal,
+    pub ceilings: [u8; 16],
+}
+
+// The bound of each task.
+pub struct Bounds {
+    pub refusal: Refusal,
+    pub bounds: [u16; 16],
+}
+
+// A laxity: its size, and whether it is below zero.
+pub struct Laxity {
+    pub below: bool,
+    pub size: u32,
+}
+
+// The laxity of each task.
+pub struct Laxities {
+    pub refusal: Refusal,
+    pub laxities: [Laxity; 16],
+}
+
+// One tick by value: who ran, and the next record.
+pub struct Ticked {
+    pub refusal: Refusal,
+    pub runner: u8,
+    pub state: State,
+}
+
+// One tick in the caller's memory: who ran.
+pub struct Told {
+    pub refusal: Refusal,
+    pub runner: u8,
+}
+
+// A whole run: the record at its end.
+pub struct Ran {
+    pub refusal: Refusal,
+    pub state: State,
+}
