@@ -6,3 +6,4 @@ pub mod Choice
 pub mod Walk
 pub mod Nesting
 pub mod Points
+pub mod Numbers

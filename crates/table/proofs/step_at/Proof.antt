@@ -1,0 +1,75 @@
+use mathlib.Core.Path.{refl}
+use native.Mathlib.Omega.{arith}
+use Rattle.rules.specs.Reading.{byte}
+use Rattle.table.proofs.Laws.{past-end, run-here, lock-here, unlock-here}
+use borrow.Author.Needs.{needs}
+use Rattle.table.proofs.step_at.Statement.{statement}
+use Rattle.table.proofs.step_at.Tie as tie
+use Rattle.table.proofs.step_at.Reads as reads
+use Rattle.table.proofs.step_at.Lts as lts
+use Rattle.table.proofs.word_at.Reads as word-at-reads
+
+-- src/lib.rt:62:17
+cast-count : tie.Need-cast-count
+cast-count c = search needs
+
+-- src/lib.rt:64:9
+returns : tie.Need-returns
+returns c = search past-end
+
+-- src/lib.rt:66:15
+cast-at : tie.Need-cast-at
+cast-at c = search needs
+
+-- src/lib.rt:66:32
+mul-at : tie.Need-mul-at
+mul-at c = search needs
+
+-- src/lib.rt:66:14
+add-at : tie.Need-add-at
+add-at c = search needs
+
+-- src/lib.rt:67:28
+add-word-at : tie.Need-add-word-at
+add-word-at c = search needs
+
+-- src/lib.rt:67:9
+word-at-requires : tie.Need-word-at-requires
+word-at-requires c κs = search needs
+
+-- src/lib.rt:68:16
+shared-slice-read-kind : tie.Need-shared-slice-read-kind
+shared-slice-read-kind c = search needs
+
+-- src/lib.rt:70:9
+returns-2 : tie.Need-returns-2
+unfolding byte
+returns-2 c = search run-here
+
+-- src/lib.rt:73:9
+returns-3 : tie.Need-returns-3
+unfolding byte
+returns-3 c = search lock-here
+
+-- src/lib.rt:58:1
+returns-4 : tie.Need-returns-4
+unfolding byte
+returns-4 c =
+    let a = c .before .before .before .before .before .before .before .before .args in
+    unlock-here (a .s .now) (a .e) (a .p) (omega arith) (c .before .before .before .word-at .result) _ (c .before .before .before .word-at .ensures) refl (c .before .if2 .left) (c .if3 .left)
+
+pub step-at-spec : {M : Type 1} → statement M
+step-at-spec =
+    tie.close
+    (tie.spec
+    cast-count
+    returns
+    cast-at
+    mul-at
+    add-at
+    add-word-at
+    word-at-requires
+    shared-slice-read-kind
+    returns-2
+    returns-3
+    returns-4)
