@@ -7,3 +7,6 @@ pub mod Walk
 pub mod Nesting
 pub mod Points
 pub mod Numbers
+pub mod Tick
+pub mod Limits
+pub mod Possible

@@ -8,9 +8,9 @@ use native.Mathlib.Omega.{arith}
 use lib.ListN.{length, take, drop}
 use borrow.Author.Tests.{eqb-true, eq-eqb, leb-false, le-leb, lt-leb, not-true, not-false}
 use Rattle.rules.specs.Words.{if_then_else_, _≤?_, _=?_, any, among}
-use Rattle.rules.specs.Sheet.{Step, run, lock, unlock, Task, taskAt, Body, end, aRun, aSection, isLock, without, heldOnTop, held}
+use Rattle.rules.specs.Sheet.{Step, run, lock, unlock, Task, Body, end, aRun, aSection, isLock, without, heldOnTop, held}
 use Rattle.rules.specs.Reading.{read, byte, word, stepOf, misplaced, readSteps, readTask}
-use Rattle.rules.proofs.Reading.{both-read, passed, got, each-task}
+use Rattle.rules.proofs.Reading.{passed, got, task-read}
 use Rattle.rules.proofs.Laws.{true-false, and-left, and-right, or-cases, or-no}
 use Rattle.rules.specs.Laws.{placed, Nesting}
 
@@ -183,10 +183,6 @@ steps-placed m i (suc n) before bytes steps e =
     (x ∷ r .0, r .1 ∙ append-assoc before (x ∷ []) (r .0), not-and (misplaced before x) _ (past12 .0) (r .2))
 
 pub task-placed : (m i : ℕ) (bytes : List ℕ) (x : Task × List ℕ) → readTask m i bytes ≡ read x → placed [] (x .0 .steps) ≡ true
-unfolding readTask
 task-placed m i bytes x e =
-    let past9 = passed 9 i 0 _ _ x (passed 8 i 0 _ _ x (passed 7 i 0 _ _ x e .1) .1) in
-    let past7 = passed 7 i 0 _ _ x (passed 10 i 0 _ _ x (past9 .1) .1) in
-    let steps = both-read (readSteps m i (byte bytes 4) [] (drop 5 bytes)) _ x (past7 .1) in
-    let r = steps-placed m i (byte bytes 4) [] (drop 5 bytes) (steps .0) (steps .1) in
-    ap (λ (y : Task × List ℕ). placed [] (y .0 .steps)) (sym (got _ x (steps .2))) ∙ ap (placed []) (r .1) ∙ r .2
+    let r = steps-placed m i (byte bytes 4) [] (drop 5 bytes) (x .0 .steps) (task-read m i bytes x e .steps) in
+    ap (placed []) (r .1) ∙ r .2

@@ -1,0 +1,97 @@
+-- Laws of a tick: what holds of each outcome of a rule holds of what it gives, and the record of each rank.
+use Prim.Native.Nat.{ℕ, _+_, _-_, _≤_, _<_}
+use mathlib.Core.Path.{_≡_, refl, sym, ap, _∙_}
+use mathlib.Core.List.{List}
+use mathlib.Core.Bool.{true, false, not, _&&_}
+use native.Mathlib.Omega.{arith}
+use lib.ListN.{length, drop}
+use borrow.Author.Tests.{ltb-true, ltb-false, eqb-true, eqb-false, lt-ltb, le-ltb, not-true, not-false}
+use Rattle.rules.specs.Words.{_<?_, _=?_}
+use Rattle.rules.specs.Sheet.{Task, Sheet, taskAt}
+use Rattle.rules.specs.Record.{noJob, blank, recordAt}
+use Rattle.rules.specs.Choice.{Runner, job, stuck, idle, full}
+use Rattle.rules.specs.Tick.{standing, releasesUp, missesUp, ranUp, blockedUp, completionsUp, releasesAt, released, afterReleases, nextRun, leftOfRun, behindUnlocks, advanced, spent, afterRunner}
+use Rattle.rules.specs.declared.TaskRecord.{TaskRecord}
+use Rattle.rules.specs.declared.State.{State}
+use Rattle.rules.proofs.Laws.{and-left, and-right, if-cases, row-at}
+
+-- 1. a release that misses, and one that starts a job
+abbrev pub missed : TaskRecord → TaskRecord
+missed r = record { job = r .job; counts = missesUp (releasesUp (r .counts)) }
+
+abbrev pub begun : (t : ℕ) → Task → TaskRecord → TaskRecord
+begun t task r = record { job = standing 0 (full (task .steps)) t; counts = releasesUp (r .counts) }
+
+pub released-cases : (P : TaskRecord → Type 0) (t : ℕ) (task : Task) (r : TaskRecord)
+    → (releasesAt t task ≡ false → P r)
+    → (releasesAt t task ≡ true → r .job .pending ≡ true → P (missed r))
+    → (releasesAt t task ≡ true → r .job .pending ≡ false → P (begun t task r))
+    → P (released t task r)
+unfolding released
+released-cases P t task r none misses begins =
+    if-cases P (not (releasesAt t task)) _ _
+    (λ e. none (not-true (releasesAt t task) e))
+    (λ e. let due = not-false (releasesAt t task) e in if-cases P (r .job .pending) _ _ (misses due) (begins due))
+
+-- 5. a job that goes on with its run, one that comes to its next step, and one that completes
+abbrev pub wentOn : Task → TaskRecord → TaskRecord
+wentOn task r = record { job = standing (nextRun task (r .job)) (leftOfRun task (r .job) - 1) (r .job .release); counts = r .counts }
+
+abbrev pub cameTo : Task → TaskRecord → TaskRecord
+cameTo task r = record { job = standing (behindUnlocks task (r .job)) (full (drop (behindUnlocks task (r .job)) (task .steps))) (r .job .release); counts = r .counts }
+
+abbrev pub completed : (t : ℕ) → TaskRecord → TaskRecord
+completed t r = record { job = noJob; counts = completionsUp (t + 1 - r .job .release) (r .counts) }
+
+pub advanced-cases : (P : TaskRecord → Type 0) (t : ℕ) (task : Task) (r : TaskRecord)
+    → (1 < leftOfRun task (r .job) → P (wentOn task r))
+    → (leftOfRun task (r .job) ≤ 1 → behindUnlocks task (r .job) < length (task .steps) → P (cameTo task r))
+    → (leftOfRun task (r .job) ≤ 1 → length (task .steps) ≤ behindUnlocks task (r .job) → P (completed t r))
+    → P (advanced t task r)
+unfolding advanced
+advanced-cases P t task r goesOn comes completes =
+    let left = leftOfRun task (r .job) in
+    let next = behindUnlocks task (r .job) in
+    if-cases P (1 <? left) _ _
+    (λ e. goesOn (ltb-true 1 left e))
+    (λ e. let used = ltb-false 1 left e in
+    if-cases P (next <? length (task .steps)) _ _
+    (λ u. comes used (ltb-true next (length (task .steps)) u))
+    (λ u. completes used (ltb-false next (length (task .steps)) u)))
+
+-- 6. the runner, and a job that is blocked
+abbrev pub hasRun : (t : ℕ) → Task → TaskRecord → TaskRecord
+hasRun t task r = record { job = advanced t task r .job; counts = ranUp (advanced t task r .counts) }
+
+abbrev pub wasBlocked : TaskRecord → TaskRecord
+wasBlocked r = record { job = r .job; counts = blockedUp (r .counts) }
+
+pub spent-cases : (P : TaskRecord → Type 0) (x : Runner) (t i : ℕ) (task : Task) (r : TaskRecord)
+    → (x ≡ job i → P (hasRun t task r))
+    → ((k : ℕ) → x ≡ job k → i < k → r .job .pending ≡ true → P (wasBlocked r))
+    → ((x ≡ job i → ⊥) → P r)
+    → P (spent x t i task r)
+unfolding spent
+spent-cases P (job x) t i task r runs waits rests =
+    if-cases P (i =? x) _ _
+    (λ e. runs (ap job (sym (eqb-true i x e))))
+    (λ e. if-cases P (i <? x && r .job .pending) _ _
+    (λ u. waits x refl (ltb-true i x (and-left (i <? x) _ u)) (and-right (i <? x) _ u))
+    (λ u. rests (λ z. eqb-false i x e (let same : i ≡ x = cc in same))))
+spent-cases P stuck t i task r runs waits rests = rests (λ z. let c : _≡_ {A = ℕ} 0 1 = cc in omega arith)
+spent-cases P idle t i task r runs waits rests = rests (λ z. let c : _≡_ {A = ℕ} 0 1 = cc in omega arith)
+
+-- the record of each rank after the releases, and after the runner
+pub released-at : (sheet : Sheet) (st : State) (i : ℕ) → i < 16 → i < length (sheet .tasks)
+    → recordAt (afterReleases sheet st) i ≡ released (st .t) (taskAt sheet i) (recordAt (st .tasks) i)
+unfolding afterReleases recordAt
+released-at sheet st i l h = row-at 16 _ blank i l ∙ (rw (lt-ltb i (length (sheet .tasks)) h) refl)
+
+pub past-at : (sheet : Sheet) (st : State) (i : ℕ) → i < 16 → length (sheet .tasks) ≤ i → recordAt (afterReleases sheet st) i ≡ recordAt (st .tasks) i
+unfolding afterReleases recordAt
+past-at sheet st i l h = row-at 16 _ blank i l ∙ (rw (le-ltb i (length (sheet .tasks)) h) refl)
+
+pub spent-at : (x : Runner) (sheet : Sheet) (t : ℕ) (records : List TaskRecord) (i : ℕ) → i < 16
+    → recordAt (afterRunner x sheet t records) i ≡ spent x t i (taskAt sheet i) (recordAt records i)
+unfolding afterRunner recordAt
+spent-at x sheet t records i l = row-at 16 _ blank i l
