@@ -15,7 +15,7 @@ use Rattle.rules.specs.declared.TaskRecord.{TaskRecord}
 use Rattle.rules.proofs.Laws.{sure, true-false, and-left, and-right, or-cases, or-right, or-no, implied, implies-no, denied, someone, every-of, not-every, every-no, smallest-found, smallest-there, lightest, any-take}
 
 -- what steps hold, they have a lock of
-among-without : (s u : ℕ) (xs : List ℕ) → among s (without u xs) ≡ true → among s xs ≡ true
+pub among-without : (s u : ℕ) (xs : List ℕ) → among s (without u xs) ≡ true → among s xs ≡ true
 unfolding among any without
 among-without s u [] e = e
 among-without s u (x ∷ xs) e = go (x =? u) (among-without s u xs) e
@@ -24,7 +24,7 @@ among-without s u (x ∷ xs) e = go (x =? u) (among-without s u xs) e
     go true h e = or-right (x =? s) (among s xs) (h e)
     go false h e = ⊎-elim (λ v. rw v refl) (λ v. or-right (x =? s) (among s xs) (h v)) (or-cases (x =? s) (among s (without u xs)) e)
 
-held-locked : (s : ℕ) (before : List ℕ) (steps : List Step) → among s (heldOnTop before steps) ≡ true → (among s before ≡ true) ⊎ (any (isLockOf s) steps ≡ true)
+pub held-locked : (s : ℕ) (before : List ℕ) (steps : List Step) → among s (heldOnTop before steps) ≡ true → (among s before ≡ true) ⊎ (any (isLockOf s) steps ≡ true)
 unfolding heldOnTop any isLockOf among
 held-locked s before [] e = inl e
 held-locked s before (run n ∷ steps) e = held-locked s before steps e

@@ -10,3 +10,5 @@ pub mod Numbers
 pub mod Tick
 pub mod Limits
 pub mod Possible
+pub mod Steps
+pub mod Kept

@@ -14,35 +14,35 @@ use Rattle.rules.proofs.Reading.{passed, got, task-read}
 use Rattle.rules.proofs.Laws.{true-false, and-left, and-right, or-cases, or-no}
 use Rattle.rules.specs.Laws.{placed, Nesting}
 
--- the same test by what is held and whether the last step was a lock
-goes : List ℕ → Bool → List Step → Bool
-goes h b [] = not (1 ≤? length h)
-goes h b (run n ∷ steps) = goes h false steps
-goes h b (lock s ∷ steps) = not (among s h || 4 ≤? length h) && goes (s ∷ h) true steps
-goes h b (unlock s ∷ steps) = not (not (among s (take 1 h)) || b) && goes (without s h) false steps
+-- the same test by what is held and whether the last step was a lock: it holds from any place of the steps on
+unfoldable pub nests : List ℕ → Bool → List Step → Bool
+nests h b [] = not (1 ≤? length h)
+nests h b (run n ∷ steps) = nests h false steps
+nests h b (lock s ∷ steps) = not (among s h || 4 ≤? length h) && nests (s ∷ h) true steps
+nests h b (unlock s ∷ steps) = not (not (among s (take 1 h)) || b) && nests (without s h) false steps
 
-held-snoc : (before : List ℕ) (steps more : List Step) → heldOnTop before (steps ++ more) ≡ heldOnTop (heldOnTop before steps) more
+pub held-snoc : (before : List ℕ) (steps more : List Step) → heldOnTop before (steps ++ more) ≡ heldOnTop (heldOnTop before steps) more
 unfolding heldOnTop
 held-snoc before [] more = refl
 held-snoc before (run n ∷ steps) more = held-snoc before steps more
 held-snoc before (lock s ∷ steps) more = held-snoc (s ∷ before) steps more
 held-snoc before (unlock s ∷ steps) more = held-snoc (without s before) steps more
 
-afterLock : List Step → Bool
+pub afterLock : List Step → Bool
 afterLock before = any isLock (take 1 (reverse before))
 
 after-snoc : (before : List Step) (x : Step) → afterLock (before ++ (x ∷ [])) ≡ isLock x
 unfolding afterLock any
 after-snoc before x = rw (reverse-append before (x ∷ [])) (or-false (isLock x))
 
-placed-goes : (before steps : List Step) → placed before steps ≡ goes (held before) (afterLock before) steps
-unfolding placed goes misplaced held heldOnTop isLock afterLock
-placed-goes before [] = refl
-placed-goes before (run n ∷ steps) = placed-goes (before ++ (run n ∷ [])) steps ∙ ap₂ (λ (h : List ℕ) (b : Bool). goes h b steps) (held-snoc [] before (run n ∷ [])) (after-snoc before (run n))
-placed-goes before (lock s ∷ steps) = ap (λ (x : Bool). not (misplaced before (lock s)) && x)
-    (placed-goes (before ++ (lock s ∷ [])) steps ∙ ap₂ (λ (h : List ℕ) (b : Bool). goes h b steps) (held-snoc [] before (lock s ∷ [])) (after-snoc before (lock s)))
-placed-goes before (unlock s ∷ steps) = ap (λ (x : Bool). not (misplaced before (unlock s)) && x)
-    (placed-goes (before ++ (unlock s ∷ [])) steps ∙ ap₂ (λ (h : List ℕ) (b : Bool). goes h b steps) (held-snoc [] before (unlock s ∷ [])) (after-snoc before (unlock s)))
+placed-nests : (before steps : List Step) → placed before steps ≡ nests (held before) (afterLock before) steps
+unfolding placed nests misplaced held heldOnTop isLock afterLock
+placed-nests before [] = refl
+placed-nests before (run n ∷ steps) = placed-nests (before ++ (run n ∷ [])) steps ∙ ap₂ (λ (h : List ℕ) (b : Bool). nests h b steps) (held-snoc [] before (run n ∷ [])) (after-snoc before (run n))
+placed-nests before (lock s ∷ steps) = ap (λ (x : Bool). not (misplaced before (lock s)) && x)
+    (placed-nests (before ++ (lock s ∷ [])) steps ∙ ap₂ (λ (h : List ℕ) (b : Bool). nests h b steps) (held-snoc [] before (lock s ∷ [])) (after-snoc before (lock s)))
+placed-nests before (unlock s ∷ steps) = ap (λ (x : Bool). not (misplaced before (unlock s)) && x)
+    (placed-nests (before ++ (unlock s ∷ [])) steps ∙ ap₂ (λ (h : List ℕ) (b : Bool). nests h b steps) (held-snoc [] before (unlock s ∷ [])) (after-snoc before (unlock s)))
 
 -- semaphores, no two of them the same: to take away the newest leaves the others
 abbrev Distinct : List ℕ → Type 0
@@ -77,32 +77,32 @@ unfolding flag
 flag-some b [] l = absurd (omega arith)
 flag-some b (x ∷ steps) l = refl
 
-unlock-goes : (s : ℕ) (h : List ℕ) (more : List Step) → among s h ≡ false → goes (s ∷ h) false (unlock s ∷ more) ≡ goes h false more
-unfolding goes among any
-unlock-goes s h more e =
+unlock-nests : (s : ℕ) (h : List ℕ) (more : List Step) → among s h ≡ false → nests (s ∷ h) false (unlock s ∷ more) ≡ nests h false more
+unfolding nests among any
+unlock-nests s h more e =
     let same : (s =? s) ≡ true = eq-eqb s s refl in
     let left : without s (s ∷ h) ≡ h = without-newest s h e in
     rw (same, left) refl
 
-body-goes : {h : List ℕ} {steps : List Step} → Body h steps → Distinct h → (b : Bool) (more : List Step) → goes h b (steps ++ more) ≡ goes h (flag b steps) more
-unfolding flag goes
-body-goes end d b more = refl
-body-goes {h} (aRun {rest = rest} β) d b more = body-goes β d false more ∙ ap (λ (c : Bool). goes h c more) (flag-false rest)
-body-goes {h} (aSection {s = s} {inside = inside} {rest = rest} new few some β γ) d b more =
+body-nests : {h : List ℕ} {steps : List Step} → Body h steps → Distinct h → (b : Bool) (more : List Step) → nests h b (steps ++ more) ≡ nests h (flag b steps) more
+unfolding flag nests
+body-nests end d b more = refl
+body-nests {h} (aRun {rest = rest} β) d b more = body-nests β d false more ∙ ap (λ (c : Bool). nests h c more) (flag-false rest)
+body-nests {h} (aSection {s = s} {inside = inside} {rest = rest} new few some β γ) d b more =
     rw (new, lt-leb 4 (length h) few)
-    (ap (goes (s ∷ h) true) (append-assoc inside (unlock s ∷ rest) more)
-    ∙ body-goes β (new, d) true (unlock s ∷ (rest ++ more))
-    ∙ ap (λ (c : Bool). goes (s ∷ h) c (unlock s ∷ (rest ++ more))) (flag-some true inside some)
-    ∙ unlock-goes s h (rest ++ more) new
-    ∙ body-goes γ d false more
-    ∙ ap (λ (c : Bool). goes h c more) (flag-false rest))
+    (ap (nests (s ∷ h) true) (append-assoc inside (unlock s ∷ rest) more)
+    ∙ body-nests β (new, d) true (unlock s ∷ (rest ++ more))
+    ∙ ap (λ (c : Bool). nests (s ∷ h) c (unlock s ∷ (rest ++ more))) (flag-some true inside some)
+    ∙ unlock-nests s h (rest ++ more) new
+    ∙ body-nests γ d false more
+    ∙ ap (λ (c : Bool). nests h c more) (flag-false rest))
 
--- a body goes
-goes-body : (steps : List Step) → Body [] steps → goes [] false steps ≡ true
-unfolding goes
-goes-body steps β = ap (goes [] false) (sym (append-nil steps)) ∙ body-goes β tt false []
+-- a body passes
+nests-body : (steps : List Step) → Body [] steps → nests [] false steps ≡ true
+unfolding nests
+nests-body steps β = ap (nests [] false) (sym (append-nil steps)) ∙ body-nests β tt false []
 
--- what goes is a body for each that is held, with its unlock behind it, and a body at last
+-- what passes is a body for each that is held, with its unlock behind it, and a body at last
 Rest : List ℕ → Bool → List Step → Type 0
 Rest [] b steps = Body [] steps
 Rest (s ∷ h) b steps =
@@ -134,19 +134,19 @@ newest : (s u : ℕ) → among s (u ∷ []) ≡ true → u ≡ s
 unfolding among any
 newest s u e = ⊎-elim (λ v. eqb-true u s v) (λ v. true-false false v refl) (or-cases (u =? s) false e)
 
-goes-rest : (steps : List Step) (h : List ℕ) (b : Bool) → Distinct h → goes h b steps ≡ true → Rest h b steps
-unfolding goes Rest among any
-goes-rest [] [] b d e = end
-goes-rest [] (s ∷ h) b d e = true-false (1 ≤? suc (length h)) (le-leb 1 (suc (length h)) (omega arith)) (not-true (1 ≤? suc (length h)) e)
-goes-rest (run n ∷ steps) h b d e = rest-run n h b steps (goes-rest steps h false d e)
-goes-rest (lock s ∷ steps) h b d e =
+nests-rest : (steps : List Step) (h : List ℕ) (b : Bool) → Distinct h → nests h b steps ≡ true → Rest h b steps
+unfolding nests Rest among any
+nests-rest [] [] b d e = end
+nests-rest [] (s ∷ h) b d e = true-false (1 ≤? suc (length h)) (le-leb 1 (suc (length h)) (omega arith)) (not-true (1 ≤? suc (length h)) e)
+nests-rest (run n ∷ steps) h b d e = rest-run n h b steps (nests-rest steps h false d e)
+nests-rest (lock s ∷ steps) h b d e =
     let ok = not-true (among s h || 4 ≤? length h) (and-left _ _ e) in
     let new = or-no (among s h) (4 ≤? length h) ok in
-    let r = goes-rest steps (s ∷ h) true (new, d) (and-right (not (among s h || 4 ≤? length h)) _ e) in
+    let r = nests-rest steps (s ∷ h) true (new, d) (and-right (not (among s h || 4 ≤? length h)) _ e) in
     subst (λ (xs : List Step). Rest h b (lock s ∷ xs)) (sym (r .2))
     (rest-section s h b (r .0) (r .1) new (leb-false 4 (length h) (or-too (among s h) (4 ≤? length h) ok)) (r .3 refl) (r .4) (r .5))
-goes-rest (unlock s ∷ steps) [] b d e = true-false false e refl
-goes-rest (unlock s ∷ steps) (u ∷ h) b d e =
+nests-rest (unlock s ∷ steps) [] b d e = true-false false e refl
+nests-rest (unlock s ∷ steps) (u ∷ h) b d e =
     let ok = not-true (not (among s (u ∷ [])) || b) (and-left _ _ e) in
     let same = newest s u (not-false (among s (u ∷ [])) (or-no (not (among s (u ∷ []))) b ok)) in
     let left : without s (u ∷ h) ≡ h = ap (λ (v : ℕ). without v (u ∷ h)) (sym same) ∙ without-newest u h (d .0) in (
@@ -155,18 +155,29 @@ goes-rest (unlock s ∷ steps) (u ∷ h) b d e =
       ap (λ (v : ℕ). unlock v ∷ steps) (sym same),
       (λ t. true-false b t (or-too (not (among s (u ∷ []))) b ok)),
       end,
-      goes-rest steps h false (d .1) (ap (λ (g : List ℕ). goes g false steps) (sym left) ∙ and-right (not (not (among s (u ∷ [])) || b)) _ e),
+      nests-rest steps h false (d .1) (ap (λ (g : List ℕ). nests g false steps) (sym left) ∙ and-right (not (not (among s (u ∷ [])) || b)) _ e),
     )
 
 pub nesting : Nesting
 unfolding held afterLock heldOnTop any Rest
 nesting steps = (
-  (λ e. goes-rest steps [] false tt (sym (placed-goes [] steps) ∙ e)),
-  (λ β. placed-goes [] steps ∙ goes-body steps β),
+  (λ e. nests-rest steps [] false tt (sym (placed-nests [] steps) ∙ e)),
+  (λ β. placed-nests [] steps ∙ nests-body steps β),
 )
 
 not-and : (a b : Bool) → a ≡ false → b ≡ true → (not a && b) ≡ true
 not-and a b p q = rw (p, q) refl
+
+placed-on : (k : ℕ) (before steps : List Step) → placed before steps ≡ true → placed (before ++ take k steps) (drop k steps) ≡ true
+unfolding placed
+placed-on zero before steps e = rw (append-nil before) e
+placed-on (suc k) before [] e = rw (append-nil before) e
+placed-on (suc k) before (x ∷ steps) e =
+    ap (λ (xs : List Step). placed xs (drop k steps)) (sym (append-assoc before (x ∷ []) (take k steps)))
+    ∙ placed-on k (before ++ (x ∷ [])) steps (and-right (not (misplaced before x)) _ e)
+
+pub nests-on : (k : ℕ) (steps : List Step) → Body [] steps → nests (held (take k steps)) (afterLock (take k steps)) (drop k steps) ≡ true
+nests-on k steps β = sym (placed-nests (take k steps) (drop k steps)) ∙ placed-on k [] steps (nesting steps .1 β)
 
 -- the steps that were read passed 12
 steps-placed : (m i n : ℕ) (before : List Step) (bytes : List ℕ) (steps : List Step) → readSteps m i n before bytes ≡ read steps

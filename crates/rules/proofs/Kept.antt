@@ -1,0 +1,269 @@
+-- The start record is possible, and a tick keeps it so.
+use Prim.Native.Nat.{ℕ, _+_, _-_, _≤_, _<_, max}
+use mathlib.Core.Path.{_≡_, refl, sym, ap, _∙_, subst}
+use mathlib.Core.Logic.{_⊎_, inl, inr, ⊎-elim}
+use mathlib.Core.List.{List}
+use mathlib.Core.Bool.{Bool, true, false, _&&_, _||_}
+use native.Mathlib.Omega.{arith}
+use lib.ListN.{length, getD-replicate}
+use borrow.Author.Tests.{ltb-true, eqb-true}
+use Rattle.rules.specs.Words.{if_then_else_, _<?_, _=?_, any, among}
+use Rattle.rules.specs.Sheet.{Task, Sheet, taskAt, isLock, heldOnTop, held}
+use Rattle.rules.specs.Reading.{read, readSheet}
+use Rattle.rules.specs.Record.{noJob, noCounts, blank, start, recordAt, behind, ahead, carries, holds}
+use Rattle.rules.specs.Choice.{Runner, job, stuck, idle, runnerByte, locks, ceiling, atRun, fresh, goes, heldByOther, freeOfCeilings, mayGo, runner}
+use Rattle.rules.specs.Tick.{ranUp, released, afterReleases, advanced, spent, afterRunner, closed, tick}
+use Rattle.rules.specs.Laws.{TaskLimits, StartPossible, TickPossible}
+use Rattle.rules.specs.declared.Job.{Job}
+use Rattle.rules.specs.declared.Counts.{Counts}
+use Rattle.rules.specs.declared.TaskRecord.{TaskRecord}
+use Rattle.rules.specs.declared.State.{State}
+use Rattle.rules.proofs.Laws.{sure, below, true-false, implies-yes, some-of, every-at, smallest-le}
+use Rattle.rules.proofs.Limits.{acceptedWithinLimits}
+use Rattle.rules.proofs.Walk.{Runs, runner-runs}
+use Rattle.rules.proofs.Tick.{released-cases, advanced-cases, spent-cases, released-at, past-at, spent-at}
+use Rattle.rules.proofs.Possible.{CountsFit, JobFits, RunnerFits, Possible, possible-parts, parts-possible}
+use Rattle.rules.proofs.Steps.{NextRun, next-run, goes-on-well, begins-well, comes-well, takes, takes-no-run, takes-locks, advanced-carries}
+
+-- a zero record fits at any tick
+blank-counts : (t : ℕ) → CountsFit t noCounts
+blank-counts t = record { releases = omega arith; completions = omega arith; misses = omega arith; ran = omega arith; blocked = omega arith; worst = omega arith }
+
+blank-job : (t : ℕ) (task : Task) → JobFits t task noJob
+blank-job t task = record { rests = λ e. refl; release = λ e. true-false false e refl; stands = λ e. true-false false e refl }
+
+blank-holds : (task : Task) (s : ℕ) → carries task noJob s ≡ true → ⊥
+unfolding carries
+blank-holds task s e = true-false false e refl
+
+pub startPossible : StartPossible
+unfolding recordAt holds
+startPossible bytes sheet e =
+    let at : (i : ℕ) → i < 16 → recordAt (start .tasks) i ≡ blank = λ i l. getD-replicate 16 i blank blank l in
+    parts-possible sheet start (record {
+      time = omega arith;
+      switches = omega arith;
+      last = inr (inr refl);
+      counts = λ i l. subst (λ (r : TaskRecord). CountsFit 0 (r .counts)) (sym (at i l)) (blank-counts 0);
+      job = λ i l. subst (λ (r : TaskRecord). JobFits 0 (taskAt sheet i) (r .job)) (sym (at i l)) (blank-job 0 (taskAt sheet i));
+      past = λ i l h. at i l;
+      single = λ i j s li lj ls hi hj. absurd (blank-holds (taskAt sheet i) s (subst (λ (r : TaskRecord). carries (taskAt sheet i) (r .job) s ≡ true) (at i li) hi));
+    })
+
+-- after the releases only releases and misses have risen
+record Rising (t : ℕ) (c : Counts) : Type 0 where
+  releases : c .releases ≤ t + 1
+  completions : c .completions ≤ t
+  misses : c .misses ≤ t + 1
+  ran : c .ran ≤ t
+  blocked : c .blocked ≤ t
+  worst : c .worst ≤ t
+
+-- a count that stays, one that rises, and the worst response
+stays : {a t : ℕ} → a ≤ t → a ≤ t + 1
+stays h = omega arith
+
+rises : {a t : ℕ} → a ≤ t → a + 1 ≤ t + 1
+rises h = omega arith
+
+worse : {a t : ℕ} (release : ℕ) → a ≤ t → max a (t + 1 - release) ≤ t + 1
+worse release h = omega arith
+
+risen : (t : ℕ) (c : Counts) (releases misses : ℕ) → CountsFit t c → releases ≤ t + 1 → misses ≤ t + 1
+    → Rising t (record { releases = releases; completions = c .completions; misses = misses; ran = c .ran; blocked = c .blocked; worst = c .worst })
+risen t c releases misses f r m = record { releases = r; completions = f .completions; misses = m; ran = f .ran; blocked = f .blocked; worst = f .worst }
+
+counts-wait : (t : ℕ) (c : Counts) → CountsFit t c → Rising t c
+counts-wait t c f = risen t c _ _ f (stays (f .releases)) (stays (f .misses))
+
+counts-released : (t : ℕ) (task : Task) (r : TaskRecord) → CountsFit t (r .counts) → Rising t (released t task r .counts)
+counts-released t task r f = released-cases (λ x. Rising t (x .counts)) t task r
+    (λ e. counts-wait t (r .counts) f)
+    (λ e p. risen t (r .counts) _ _ f (rises (f .releases)) (rises (f .misses)))
+    (λ e p. risen t (r .counts) _ _ f (rises (f .releases)) (stays (f .misses)))
+
+-- and then each other count rises at most once
+spending : (t : ℕ) (c : Counts) (completions ran blocked worst : ℕ) → Rising t c → completions ≤ t + 1 → ran ≤ t + 1 → blocked ≤ t + 1 → worst ≤ t + 1
+    → CountsFit (t + 1) (record { releases = c .releases; completions = completions; misses = c .misses; ran = ran; blocked = blocked; worst = worst })
+spending t c completions ran blocked worst f k r b w = record { releases = f .releases; completions = k; misses = f .misses; ran = r; blocked = b; worst = w }
+
+counts-advanced : (t : ℕ) (task : Task) (r : TaskRecord) → Rising t (r .counts) → CountsFit (t + 1) (ranUp (advanced t task r .counts))
+counts-advanced t task r f = advanced-cases (λ x. CountsFit (t + 1) (ranUp (x .counts))) t task r
+    (λ l. spending t (r .counts) _ _ _ _ f (stays (f .completions)) (rises (f .ran)) (stays (f .blocked)) (stays (f .worst)))
+    (λ l h. spending t (r .counts) _ _ _ _ f (stays (f .completions)) (rises (f .ran)) (stays (f .blocked)) (stays (f .worst)))
+    (λ l h. spending t (r .counts) _ _ _ _ f (rises (f .completions)) (rises (f .ran)) (stays (f .blocked)) (worse (r .job .release) (f .worst)))
+
+counts-spent : (x : Runner) (t i : ℕ) (task : Task) (r : TaskRecord) → Rising t (r .counts) → CountsFit (t + 1) (spent x t i task r .counts)
+counts-spent x t i task r f = spent-cases (λ y. CountsFit (t + 1) (y .counts)) x t i task r
+    (λ e. counts-advanced t task r f)
+    (λ k e l p. spending t (r .counts) _ _ _ _ f (stays (f .completions)) (stays (f .ran)) (rises (f .blocked)) (stays (f .worst)))
+    (λ e. spending t (r .counts) _ _ _ _ f (stays (f .completions)) (stays (f .ran)) (stays (f .blocked)) (stays (f .worst)))
+
+-- jobs: one that waits, one that starts, and the runner
+job-waits : (t : ℕ) (task : Task) (j : Job) → JobFits t task j → JobFits (t + 1) task j
+job-waits t task j f = record { rests = f .rests; release = λ p. omega (arith, f .release p); stands = f .stands }
+
+job-released : (m t : ℕ) (task : Task) (r : TaskRecord) → TaskLimits m task → JobFits t task (r .job) → JobFits (t + 1) task (released t task r .job)
+unfolding ahead
+job-released m t task r τ f = released-cases (λ x. JobFits (t + 1) task (x .job)) t task r
+    (λ e. job-waits t task (r .job) f)
+    (λ e p. job-waits t task (r .job) f)
+    (λ e p. record { rests = λ q. true-false true refl q; release = λ q. omega arith; stands = λ q. begins-well m task τ })
+
+job-advanced : (m t : ℕ) (task : Task) (r : TaskRecord) → TaskLimits m task → r .job .pending ≡ true → JobFits (t + 1) task (r .job)
+    → JobFits (t + 1) task (advanced t task r .job)
+unfolding ahead
+job-advanced m t task r τ p f =
+    let ν = next-run m task (r .job) τ (f .stands p) in
+    advanced-cases (λ x. JobFits (t + 1) task (x .job)) t task r
+    (λ l. record { rests = λ q. true-false true refl q; release = λ q. f .release p; stands = λ q. goes-on-well task (r .job) ν l })
+    (λ l h. record { rests = λ q. true-false true refl q; release = λ q. f .release p; stands = λ q. comes-well m task (r .job) τ h })
+    (λ l h. blank-job (t + 1) task)
+
+-- a job that starts holds nothing
+released-carries : (t : ℕ) (task : Task) (r : TaskRecord) (s : ℕ) → carries task (released t task r .job) s ≡ true → carries task (r .job) s ≡ true
+unfolding carries behind held heldOnTop among any
+released-carries t task r s = released-cases (λ x. carries task (x .job) s ≡ true → carries task (r .job) s ≡ true) t task r
+    (λ e h. h)
+    (λ e p h. h)
+    (λ e p h. true-false false h refl)
+
+-- a job that takes a lock may go only as it is free of ceilings; so no other holds what it takes
+only-free : (fresh free run : Bool) → (if fresh then free else (free || run)) ≡ true → run ≡ false → free ≡ true
+only-free true free run e h = e
+only-free false true run e h = refl
+only-free false false run e h = true-false run e h
+
+taken-alone : (sheet : Sheet) (rs : List TaskRecord) (x k s : ℕ) → Runs sheet rs x → takes (taskAt sheet x) (recordAt rs x .job) s ≡ true
+    → k < 16 → s < 16 → holds sheet rs k s ≡ true → k ≡ x
+unfolding mayGo goes freeOfCeilings heldByOther ceiling
+taken-alone sheet rs x k s ρ e lk ls h =
+    let task = taskAt sheet x in
+    let j = recordAt rs x .job in
+    let free = only-free (sheet .mode =? 1 && fresh task j && any isLock (task .steps)) (freeOfCeilings sheet rs x) (atRun task j) (ρ .may) (takes-no-run task j s e) in
+    ⊎-elim
+    (λ u. eqb-true k x u)
+    (λ u.
+    let other : heldByOther sheet rs x s ≡ true = some-of 16 _ k lk (rw u h) in
+    let above = ltb-true x (ceiling sheet s) (implies-yes (heldByOther sheet rs x s) (x <? ceiling sheet s) (every-at 16 _ free s ls) other) in
+    let ceiled = smallest-le 16 255 (λ i. locks (taskAt sheet i) s) x (ρ .rank) (takes-locks task j s e) in
+    absurd (omega (arith, above, ceiled)))
+    (sure (k =? x))
+
+-- a tick, rank by rank
+module _ (bytes : List ℕ) (sheet : Sheet) (e : readSheet bytes ≡ read sheet) (st : State) (π : Possible sheet st) (early : st .t < 60000) where
+  abbrev n : ℕ
+  n = length (sheet .tasks)
+
+  abbrev rs : List TaskRecord
+  rs = afterReleases sheet st
+
+  abbrev x : Runner
+  x = runner sheet rs
+
+  abbrev next : List TaskRecord
+  next = afterRunner x sheet (st .t) rs
+
+  -- after the releases
+  each-released : (P : TaskRecord → Type 0) (i : ℕ) → i < 16
+      → (i < n → P (released (st .t) (taskAt sheet i) (recordAt (st .tasks) i))) → (n ≤ i → P (recordAt (st .tasks) i)) → P (recordAt rs i)
+  each-released P i l inside past = ⊎-elim
+      (λ (u : i < n). subst P (sym (released-at sheet st i l u)) (inside u))
+      (λ (u : n ≤ i). subst P (sym (past-at sheet st i l u)) (past u))
+      (below i n)
+
+  rising : (i : ℕ) → i < 16 → Rising (st .t) (recordAt rs i .counts)
+  rising i l = each-released (λ r. Rising (st .t) (r .counts)) i l
+      (λ u. counts-released (st .t) (taskAt sheet i) (recordAt (st .tasks) i) (π .counts i l))
+      (λ u. counts-wait (st .t) (recordAt (st .tasks) i .counts) (π .counts i l))
+
+  fits : (i : ℕ) → i < 16 → JobFits (st .t + 1) (taskAt sheet i) (recordAt rs i .job)
+  fits i l = each-released (λ r. JobFits (st .t + 1) (taskAt sheet i) (r .job)) i l
+      (λ u. job-released (sheet .semaphores) (st .t) (taskAt sheet i) (recordAt (st .tasks) i) (acceptedWithinLimits bytes sheet e .each i u) (π .job i l))
+      (λ u. job-waits (st .t) (taskAt sheet i) (recordAt (st .tasks) i .job) (π .job i l))
+
+  held-before : (i s : ℕ) → i < 16 → holds sheet rs i s ≡ true → holds sheet (st .tasks) i s ≡ true
+  unfolding holds
+  held-before i s l = each-released (λ r. carries (taskAt sheet i) (r .job) s ≡ true → carries (taskAt sheet i) (recordAt (st .tasks) i .job) s ≡ true) i l
+      (λ u. released-carries (st .t) (taskAt sheet i) (recordAt (st .tasks) i) s)
+      (λ u h. h)
+
+  rest-past : (i : ℕ) → i < 16 → n ≤ i → recordAt rs i ≡ blank
+  rest-past i l h = past-at sheet st i l h ∙ π .past i l h
+
+  -- the runner is pending, so it is a rank below n
+  runner-rank : (k : ℕ) → x ≡ job k → k < n
+  runner-rank k z =
+      let ρ = runner-runs sheet rs k z in
+      ⊎-elim (λ u. u)
+      (λ (u : n ≤ k). true-false (recordAt rs k .job .pending) (ρ .pending) (ap (λ (r : TaskRecord). r .job .pending) (rest-past k (ρ .rank) u)))
+      (below k n)
+
+  runner-next : (i : ℕ) → x ≡ job i → NextRun (taskAt sheet i) (recordAt rs i .job)
+  runner-next i z =
+      let ρ = runner-runs sheet rs i z in
+      next-run (sheet .semaphores) (taskAt sheet i) (recordAt rs i .job) (acceptedWithinLimits bytes sheet e .each i (runner-rank i z)) (fits i (ρ .rank) .stands (ρ .pending))
+
+  -- after the runner
+  next-fits : (i : ℕ) → i < 16 → JobFits (st .t + 1) (taskAt sheet i) (recordAt next i .job)
+  next-fits i l = subst (λ (r : TaskRecord). JobFits (st .t + 1) (taskAt sheet i) (r .job)) (sym (spent-at x sheet (st .t) rs i l))
+      (spent-cases (λ r. JobFits (st .t + 1) (taskAt sheet i) (r .job)) x (st .t) i (taskAt sheet i) (recordAt rs i)
+      (λ z. job-advanced (sheet .semaphores) (st .t) (taskAt sheet i) (recordAt rs i) (acceptedWithinLimits bytes sheet e .each i (runner-rank i z)) (runner-runs sheet rs i z .pending) (fits i l))
+      (λ k z u p. fits i l)
+      (λ z. fits i l))
+
+  next-past : (i : ℕ) → i < 16 → n ≤ i → recordAt next i ≡ blank
+  next-past i l h = spent-at x sheet (st .t) rs i l ∙ spent-cases (λ r. r ≡ blank) x (st .t) i (taskAt sheet i) (recordAt rs i)
+      (λ z. absurd (omega (arith, runner-rank i z)))
+      (λ k z u p. absurd (omega (arith, runner-rank k z)))
+      (λ z. rest-past i l h)
+
+  -- a job holds what it held, or it is the runner and took it
+  next-holds : (i s : ℕ) → i < 16 → holds sheet next i s ≡ true
+      → (holds sheet rs i s ≡ true) ⊎ ((x ≡ job i) × (takes (taskAt sheet i) (recordAt rs i .job) s ≡ true))
+  unfolding holds
+  next-holds i s l h = spent-cases
+      (λ r. carries (taskAt sheet i) (r .job) s ≡ true → (holds sheet rs i s ≡ true) ⊎ ((x ≡ job i) × (takes (taskAt sheet i) (recordAt rs i .job) s ≡ true)))
+      x (st .t) i (taskAt sheet i) (recordAt rs i)
+      (λ z c. ⊎-elim inl (λ v. inr (z, v)) (advanced-carries (st .t) (taskAt sheet i) (recordAt rs i) s (runner-runs sheet rs i z .pending) (runner-next i z) c))
+      (λ k z u p c. inl c)
+      (λ z c. inl c)
+      (subst (λ (r : TaskRecord). carries (taskAt sheet i) (r .job) s ≡ true) (spent-at x sheet (st .t) rs i l) h)
+
+  next-single : (i j s : ℕ) → i < 16 → j < 16 → s < 16 → holds sheet next i s ≡ true → holds sheet next j s ≡ true → i ≡ j
+  next-single i j s li lj ls hi hj = go (next-holds i s li hi) (next-holds j s lj hj)
+    where
+      Before : ℕ → Type 0
+      Before k = (holds sheet rs k s ≡ true) ⊎ ((x ≡ job k) × (takes (taskAt sheet k) (recordAt rs k .job) s ≡ true))
+
+      go : Before i → Before j → i ≡ j
+      go (inl a) (inl b) = π .single i j s li lj ls (held-before i s li a) (held-before j s lj b)
+      go (inl a) (inr b) = taken-alone sheet rs j i s (runner-runs sheet rs j (b .0)) (b .1) li ls a
+      go (inr a) (inl b) = sym (taken-alone sheet rs i j s (runner-runs sheet rs i (a .0)) (a .1) lj ls b)
+      go (inr a) (inr b) = let z : job i ≡ job j = sym (a .0) ∙ b .0 in cc
+
+  -- the runner's byte, and the switches
+  byte-fits : (y : Runner) → ((k : ℕ) → y ≡ job k → k < n) → RunnerFits n (runnerByte y)
+  unfolding runnerByte
+  byte-fits (job k) h = inl (h k refl)
+  byte-fits stuck h = inr (inl refl)
+  byte-fits idle h = inr (inr refl)
+
+  switches-rise : (b : Bool) → (if b then st .switches else st .switches + 1) ≤ st .t + 1
+  switches-rise true = omega (arith, π .switches)
+  switches-rise false = omega (arith, π .switches)
+
+  tick-parts : Possible sheet (tick sheet st)
+  unfolding tick closed
+  tick-parts = record {
+    time = omega arith;
+    switches = switches-rise (runnerByte x =? st .last);
+    last = byte-fits x runner-rank;
+    counts = λ i l. subst (λ (r : TaskRecord). CountsFit (st .t + 1) (r .counts)) (sym (spent-at x sheet (st .t) rs i l)) (counts-spent x (st .t) i (taskAt sheet i) (recordAt rs i) (rising i l));
+    job = next-fits;
+    past = next-past;
+    single = next-single;
+  }
+
+pub tickPossible : TickPossible
+tickPossible bytes sheet e st p early = parts-possible sheet (tick sheet st) (tick-parts bytes sheet e st (possible-parts sheet st p) early)
