@@ -1,0 +1,45 @@
+//! The wrong rules that can be built in, one feature each. All are false in
+//! an ordinary build, and then cost nothing.
+
+/// A lock is granted because the semaphore itself is free.
+pub const FREE_SEMAPHORE: bool = cfg!(feature = "wrong-free-semaphore");
+/// A rank equal to the ceiling is let through.
+pub const EQUAL_GOES: bool = cfg!(feature = "wrong-equal-goes");
+/// Unlocks wait for the job's next tick.
+pub const LATE_UNLOCK: bool = cfg!(feature = "wrong-late-unlock");
+/// Only the pending job of smallest rank is counted as blocked.
+pub const ONLY_ASKER: bool = cfg!(feature = "wrong-only-asker");
+/// A completion at the period's end is a miss.
+pub const END_MISS: bool = cfg!(feature = "wrong-end-miss");
+/// A holder is measured by the rank of the job it keeps waiting.
+pub const INHERITED_RANK: bool = cfg!(feature = "wrong-inherited-rank");
+/// The preemption rule is left out.
+pub const MODE1_IGNORED: bool = cfg!(feature = "wrong-mode1-ignored");
+/// A job in the middle of its first run is still fresh.
+pub const FRESH_LEFT: bool = cfg!(feature = "wrong-fresh-left");
+/// The preemption rule also holds back jobs that never lock.
+pub const FRESH_LOCKLESS: bool = cfg!(feature = "wrong-fresh-lockless");
+/// Among equal ceilings the largest semaphore number counts.
+pub const TIE_LARGEST: bool = cfg!(feature = "wrong-tie-largest");
+/// Going to or from idle is no switch.
+pub const IDLE_NO_SWITCH: bool = cfg!(feature = "wrong-idle-no-switch");
+/// A stuck tick blocks every pending job.
+pub const STUCK_BLOCKED: bool = cfg!(feature = "wrong-stuck-blocked");
+/// A missed release is not counted among the releases.
+pub const MISSED_RELEASE: bool = cfg!(feature = "wrong-missed-release");
+/// The offset is looked at before the period.
+pub const ORDER_8_9: bool = cfg!(feature = "wrong-order-8-9");
+/// Open sections are reported at the last step, not after it.
+pub const OPEN_STEP: bool = cfg!(feature = "wrong-open-step");
+/// The last tick is looked at before the rest of the record.
+pub const ORDER_16_17: bool = cfg!(feature = "wrong-order-16-17");
+/// The switch count may be above the tick.
+pub const SWITCHES_FREE: bool = cfg!(feature = "wrong-switches-free");
+/// Only ceilings below the rank count for its bound.
+pub const BOUND_BELOW: bool = cfg!(feature = "wrong-bound-below");
+/// Sections inside other sections are left out of the bound.
+pub const BOUND_OUTERMOST: bool = cfg!(feature = "wrong-bound-outermost");
+/// The last of several laxity points is left out.
+pub const POINT_SHORT: bool = cfg!(feature = "wrong-point-short");
+/// Demand takes time over period rounded down.
+pub const ROUND_DOWN: bool = cfg!(feature = "wrong-round-down");

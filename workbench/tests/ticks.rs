@@ -1,0 +1,291 @@
+//! One tick on records made by hand.
+
+mod common;
+
+use common::{field, resting, second_tick, standing, tick};
+use workbench::draft::{case_a, case_e, lock, run, unlock, with_record, Draft, DraftTask};
+use workbench::record::{Record, TaskRecord, IDLE, STUCK};
+
+const IMPOSSIBLE: &str = "refused 16 task 0 step 0\n";
+const AT_THE_END: &str = "refused 17 task 0 step 0\n";
+
+/// Something done to a record.
+type Change = fn(&mut Record);
+
+fn runner(answer: &str) -> &str {
+    answer.lines().next().unwrap()
+}
+
+/// Case A at tick 5 as its run leaves it: rank 0 waits at its lock.
+fn case_a_at_5() -> Record {
+    let mut record = resting(5);
+    record.last_runner = 1;
+    record.switches = 3;
+    record.tasks[0] = TaskRecord {
+        release: 2,
+        releases: 1,
+        ran: 1,
+        blocked: 2,
+        ..standing(1, 0)
+    };
+    record.tasks[1] = TaskRecord {
+        releases: 1,
+        ran: 4,
+        ..standing(4, 1)
+    };
+    record
+}
+
+#[test]
+fn whole_answer() {
+    let rest = (2..16)
+        .map(|rank| {
+            format!(
+                "{rank} pending 0 position 0 left 0 release 0 releases 0 done 0 \
+                 missed 0 ran 0 blocked 0 worst 0\n"
+            )
+        })
+        .collect::<String>();
+    assert_eq!(
+        tick(&case_a(0), &case_a_at_5()),
+        "runner 0\nt 6 switches 4 last 0\n\
+         0 pending 0 position 0 left 0 release 0 releases 1 done 1 missed 0 ran 2 blocked 2 worst 4\n\
+         1 pending 1 position 4 left 1 release 0 releases 1 done 0 missed 0 ran 4 blocked 0 worst 0\n"
+            .to_string()
+            + &rest
+    );
+}
+
+#[test]
+fn missing_bytes_are_zero() {
+    let sheet = case_a(0).to_bytes();
+    // A record of zeros: its last runner is rank 0, and rank 1 runs.
+    let answer = second_tick(&with_record(&sheet, &[]));
+    assert!(answer.starts_with("runner 1\nt 1 switches 1 last 1\n"));
+    assert_eq!(second_tick(&[]), "refused 1 task 0 step 0\n");
+    assert_eq!(second_tick(&[9]), "refused 1 task 0 step 0\n");
+    let cut = &with_record(&sheet, &[])[..30];
+    assert_eq!(second_tick(cut), "refused 7 task 1 step 0\n");
+    // Whatever follows the record is not looked at.
+    let mut long = with_record(&sheet, &case_a_at_5().to_bytes());
+    long.extend([255; 40]);
+    assert_eq!(second_tick(&long), tick(&case_a(0), &case_a_at_5()));
+}
+
+#[test]
+fn any_byte_but_zero_is_pending() {
+    let mut bytes = case_a_at_5().to_bytes();
+    bytes[5] = 200;
+    let answer = second_tick(&with_record(&case_a(0).to_bytes(), &bytes));
+    assert_eq!(answer, tick(&case_a(0), &case_a_at_5()));
+}
+
+#[test]
+fn number_16_each_reason() {
+    let reasons: [(&str, Change); 22] = [
+        ("t", |r| r.t = 60_001),
+        ("switches", |r| r.switches = 6),
+        ("releases", |r| r.tasks[1].releases = 6),
+        ("completions", |r| r.tasks[0].completions = 6),
+        ("misses", |r| r.tasks[0].misses = 6),
+        ("ran", |r| r.tasks[0].ran = 6),
+        ("blocked", |r| r.tasks[1].blocked = 6),
+        ("worst", |r| r.tasks[0].worst = 6),
+        ("last runner n", |r| r.last_runner = 2),
+        ("last runner 253", |r| r.last_runner = 253),
+        ("unused record", |r| r.tasks[2].worst = 1),
+        ("unused record pending", |r| r.tasks[15].pending = true),
+        ("release tick at t", |r| r.tasks[0].release = 5),
+        ("left at a lock", |r| r.tasks[0].left = 1),
+        ("nothing left of a run", |r| r.tasks[1].left = 0),
+        ("more left than there is", |r| r.tasks[1].left = 2),
+        ("at an unlock", |r| r.tasks[0] = standing(3, 0)),
+        ("behind the steps", |r| r.tasks[0] = standing(4, 0)),
+        ("two holders", |r| {
+            r.tasks[0] = standing(2, 1);
+            r.tasks[1] = standing(2, 1);
+        }),
+        ("resting position", |r| r.tasks[0].pending = false),
+        ("resting left", |r| {
+            r.tasks[1] = TaskRecord {
+                left: 1,
+                ..TaskRecord::default()
+            }
+        }),
+        ("resting release", |r| {
+            r.tasks[1] = TaskRecord {
+                release: 1,
+                ..TaskRecord::default()
+            }
+        }),
+    ];
+    for (name, spoil) in reasons {
+        let mut record = case_a_at_5();
+        spoil(&mut record);
+        assert_eq!(tick(&case_a(0), &record), IMPOSSIBLE, "{name}");
+    }
+}
+
+#[test]
+fn just_possible() {
+    let kinds: [Change; 6] = [
+        |r| r.switches = 5,
+        |r| r.tasks[1].blocked = 5,
+        |r| r.tasks[1].worst = 5,
+        |r| r.last_runner = STUCK,
+        |r| r.last_runner = IDLE,
+        |r| r.tasks[0].release = 4,
+    ];
+    for change in kinds {
+        let mut record = case_a_at_5();
+        change(&mut record);
+        assert_eq!(runner(&tick(&case_a(0), &record)), "runner 0");
+    }
+}
+
+#[test]
+fn number_17_after_16() {
+    let mut record = resting(60_000);
+    assert_eq!(tick(&case_a(0), &record), AT_THE_END);
+    record.last_runner = 2;
+    assert_eq!(tick(&case_a(0), &record), IMPOSSIBLE);
+    record = resting(59_999);
+    let answer = tick(&case_a(0), &record);
+    assert_eq!(runner(&answer), "runner 255");
+    assert!(answer.contains("\nt 60000 switches 0 last 255\n"));
+}
+
+#[test]
+fn sheet_refusals_before_the_record() {
+    let mut draft = case_a(0);
+    draft.tail = vec![0];
+    assert_eq!(tick(&draft, &resting(60_001)), "refused 13 task 0 step 0\n");
+}
+
+/// Rank 0 locks all of 0 to 2 once; the others hold one each while they run.
+fn equal_ceilings() -> Draft {
+    let one = |s| [lock(s), run(5), unlock(s)];
+    let top = [one(0), one(1), one(2)].concat();
+    let tasks = vec![
+        DraftTask::new(100, 0, &top),
+        DraftTask::new(100, 0, &one(2)),
+        DraftTask::new(100, 0, &one(0)),
+        DraftTask::new(100, 0, &one(1)),
+    ];
+    Draft::new(3, 0, tasks)
+}
+
+#[test]
+fn ties_go_to_the_smallest_semaphore() {
+    let mut record = resting(9);
+    record.tasks[0] = standing(0, 0);
+    record.tasks[1] = standing(1, 3);
+    record.tasks[3] = standing(1, 3);
+    let answer = tick(&equal_ceilings(), &record);
+    assert_eq!(runner(&answer), "runner 3");
+    let blocked: Vec<i64> = (0..4).map(|rank| field(&answer, rank, "blocked")).collect();
+    assert_eq!(blocked, [1, 1, 0, 0]);
+    record.tasks[2] = standing(1, 3);
+    assert_eq!(runner(&tick(&equal_ceilings(), &record)), "runner 2");
+}
+
+/// Three tasks each of which may wait for the next one.
+fn chain(mode: u8) -> Draft {
+    let tasks = vec![
+        DraftTask::new(100, 0, &[lock(0), run(1), unlock(0)]),
+        DraftTask::new(
+            100,
+            0,
+            &[lock(0), run(4), lock(1), run(4), unlock(1), unlock(0)],
+        ),
+        DraftTask::new(100, 0, &[run(2), lock(1), run(4), unlock(1)]),
+    ];
+    Draft::new(2, mode, tasks)
+}
+
+#[test]
+fn candidacy_is_handed_on() {
+    let mut record = resting(9);
+    record.tasks[0] = standing(0, 0);
+    record.tasks[1] = standing(2, 0);
+    record.tasks[2] = standing(2, 4);
+    // Rank 0 waits for rank 1, which waits for rank 2 by its own rank.
+    let answer = tick(&chain(0), &record);
+    assert_eq!(runner(&answer), "runner 2");
+    assert_eq!(field(&answer, 0, "blocked"), 1);
+    assert_eq!(field(&answer, 1, "blocked"), 1);
+}
+
+#[test]
+fn two_wait_for_each_other_below_a_third() {
+    let mut draft = case_e();
+    draft.tasks.insert(0, draft.tasks[0].clone());
+    let mut record = resting(2);
+    record.tasks[0] = standing(0, 0);
+    record.tasks[1] = standing(2, 0);
+    record.tasks[2] = standing(2, 0);
+    assert_eq!(runner(&tick(&draft, &record)), "runner 254");
+}
+
+#[test]
+fn fresh_only_while_untouched() {
+    // In mode 1, rank 1 runs first and locks later; rank 2 holds what rank 1
+    // may lock.
+    let tasks = vec![
+        DraftTask::new(100, 99, &[run(1)]),
+        DraftTask::new(100, 99, &[run(3), lock(0), run(1), unlock(0)]),
+        DraftTask::new(100, 99, &[lock(0), run(4), unlock(0)]),
+    ];
+    let draft = Draft::new(1, 1, tasks);
+    let mut record = resting(9);
+    record.tasks[2] = standing(1, 2);
+    record.tasks[1] = standing(0, 3);
+    assert_eq!(runner(&tick(&draft, &record)), "runner 2");
+    record.tasks[1] = standing(0, 2);
+    assert_eq!(runner(&tick(&draft, &record)), "runner 1");
+    // Without any lock, a fresh job is not held back.
+    record.tasks[0] = standing(0, 1);
+    assert_eq!(runner(&tick(&draft, &record)), "runner 0");
+    // The preemption rule belongs to mode 1.
+    record.tasks[0] = TaskRecord::default();
+    record.tasks[1] = standing(0, 3);
+    let mut mode_0 = draft.clone();
+    mode_0.mode = 0;
+    assert_eq!(runner(&tick(&mode_0, &record)), "runner 1");
+}
+
+#[test]
+fn a_fresh_holder_may_be_held_back() {
+    // Rank 1 has locked and not yet run, which no run from the start shows.
+    let tasks = vec![
+        DraftTask::new(100, 99, &[lock(0), run(2), unlock(0)]),
+        DraftTask::new(100, 99, &[lock(1), run(2), unlock(1)]),
+        DraftTask::new(100, 99, &[lock(0), run(2), unlock(0)]),
+    ];
+    let draft = Draft::new(2, 1, tasks);
+    let mut record = resting(9);
+    record.tasks[1] = standing(1, 2);
+    record.tasks[2] = standing(1, 1);
+    assert_eq!(runner(&tick(&draft, &record)), "runner 2");
+    record.tasks[1] = standing(1, 1);
+    assert_eq!(runner(&tick(&draft, &record)), "runner 1");
+    // With both fresh, each waits for the other's ceiling.
+    record.tasks[1] = standing(1, 2);
+    record.tasks[2] = standing(1, 2);
+    assert_eq!(runner(&tick(&draft, &record)), "runner 254");
+}
+
+#[test]
+fn all_locks_before_the_run_are_taken() {
+    let steps = [lock(0), lock(1), run(2), unlock(1), unlock(0), run(1)];
+    let draft = Draft::new(2, 0, vec![DraftTask::new(100, 99, &steps)]);
+    let mut record = resting(9);
+    record.tasks[0] = standing(0, 0);
+    let answer = tick(&draft, &record);
+    assert_eq!(field(&answer, 0, "position"), 2);
+    assert_eq!(field(&answer, 0, "left"), 1);
+    record.tasks[0] = standing(2, 1);
+    let answer = tick(&draft, &record);
+    assert_eq!(field(&answer, 0, "position"), 5);
+    assert_eq!(field(&answer, 0, "left"), 1);
+}
