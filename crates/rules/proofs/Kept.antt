@@ -1,5 +1,5 @@
 -- The start record is possible, and a tick keeps it so.
-use Prim.Native.Nat.{ℕ, _+_, _-_, _≤_, _<_, max}
+use Prim.Native.Nat.{ℕ, zero, suc, _+_, _-_, _≤_, _<_, max}
 use mathlib.Core.Path.{_≡_, refl, sym, ap, _∙_, subst}
 use mathlib.Core.Logic.{_⊎_, inl, inr, ⊎-elim}
 use mathlib.Core.List.{List}
@@ -10,9 +10,10 @@ use borrow.Author.Tests.{ltb-true, eqb-true}
 use Rattle.rules.specs.Words.{if_then_else_, _<?_, _=?_, any, among}
 use Rattle.rules.specs.Sheet.{Task, Sheet, taskAt, isLock, heldOnTop, held}
 use Rattle.rules.specs.Reading.{read, readSheet}
-use Rattle.rules.specs.Record.{noJob, noCounts, blank, start, recordAt, behind, ahead, carries, holds}
+use Rattle.rules.specs.Record.{noJob, noCounts, blank, start, recordAt, behind, ahead, carries, holds, possible}
 use Rattle.rules.specs.Choice.{Runner, job, stuck, idle, runnerByte, locks, ceiling, atRun, fresh, goes, heldByOther, freeOfCeilings, mayGo, runner}
 use Rattle.rules.specs.Tick.{ranUp, released, afterReleases, advanced, spent, afterRunner, closed, tick}
+use Rattle.rules.specs.Run.{after}
 use Rattle.rules.specs.Laws.{TaskLimits, StartPossible, TickPossible}
 use Rattle.rules.specs.declared.Job.{Job}
 use Rattle.rules.specs.declared.Counts.{Counts}
@@ -25,17 +26,20 @@ use Rattle.rules.proofs.Tick.{released-cases, advanced-cases, spent-cas
 use Rattle.rules.proofs.Possible.{CountsFit, JobFits, RunnerFits, Possible, possible-parts, parts-possible}
 use Rattle.rules.proofs.Steps.{NextRun, next-run, goes-on-well, begins-well, comes-well, takes, takes-no-run, takes-locks, advanced-carries}
 
--- a zero record fits at any tick
+-- a zero record fits at any tick: its counts,
 blank-counts : (t : ℕ) → CountsFit t noCounts
 blank-counts t = record { releases = omega arith; completions = omega arith; misses = omega arith; ran = omega arith; blocked = omega arith; worst = omega arith }
 
+-- its job,
 blank-job : (t : ℕ) (task : Task) → JobFits t task noJob
 blank-job t task = record { rests = λ e. refl; release = λ e. true-false false e refl; stands = λ e. true-false false e refl }
 
+-- which holds nothing
 blank-holds : (task : Task) (s : ℕ) → carries task noJob s ≡ true → ⊥
 unfolding carries
 blank-holds task s e = true-false false e refl
 
+-- THE LAW: the start record is possible
 pub startPossible : StartPossible
 unfolding recordAt holds
 startPossible bytes sheet e =
@@ -51,13 +55,13 @@ startPossible bytes sheet e =
     })
 
 -- after the releases only releases and misses have risen
-record Rising (t : ℕ) (c : Counts) : Type 0 where
-  releases : c .releases ≤ t + 1
-  completions : c .completions ≤ t
-  misses : c .misses ≤ t + 1
-  ran : c .ran ≤ t
-  blocked : c .blocked ≤ t
-  worst : c .worst ≤ t
+pub record Rising (t : ℕ) (c : Counts) : Type 0 where
+  pub releases : c .releases ≤ t + 1
+  pub completions : c .completions ≤ t
+  pub misses : c .misses ≤ t + 1
+  pub ran : c .ran ≤ t
+  pub blocked : c .blocked ≤ t
+  pub worst : c .worst ≤ t
 
 -- a count that stays, one that rises, and the worst response
 stays : {a t : ℕ} → a ≤ t → a ≤ t + 1
@@ -69,13 +73,16 @@ rises h = omega arith
 worse : {a t : ℕ} (release : ℕ) → a ≤ t → max a (t + 1 - release) ≤ t + 1
 worse release h = omega arith
 
+-- at a release
 risen : (t : ℕ) (c : Counts) (releases misses : ℕ) → CountsFit t c → releases ≤ t + 1 → misses ≤ t + 1
     → Rising t (record { releases = releases; completions = c .completions; misses = misses; ran = c .ran; blocked = c .blocked; worst = c .worst })
 risen t c releases misses f r m = record { releases = r; completions = f .completions; misses = m; ran = f .ran; blocked = f .blocked; worst = f .worst }
 
+-- where there is none
 counts-wait : (t : ℕ) (c : Counts) → CountsFit t c → Rising t c
 counts-wait t c f = risen t c _ _ f (stays (f .releases)) (stays (f .misses))
 
+-- so after the releases
 counts-released : (t : ℕ) (task : Task) (r : TaskRecord) → CountsFit t (r .counts) → Rising t (released t task r .counts)
 counts-released t task r f = released-cases (λ x. Rising t (x .counts)) t task r
     (λ e. counts-wait t (r .counts) f)
@@ -87,22 +94,25 @@ spending : (t : ℕ) (c : Counts) (completions ran blocked worst : ℕ) → Risi
     → CountsFit (t + 1) (record { releases = c .releases; completions = completions; misses = c .misses; ran = ran; blocked = blocked; worst = worst })
 spending t c completions ran blocked worst f k r b w = record { releases = f .releases; completions = k; misses = f .misses; ran = r; blocked = b; worst = w }
 
+-- those of the runner
 counts-advanced : (t : ℕ) (task : Task) (r : TaskRecord) → Rising t (r .counts) → CountsFit (t + 1) (ranUp (advanced t task r .counts))
 counts-advanced t task r f = advanced-cases (λ x. CountsFit (t + 1) (ranUp (x .counts))) t task r
     (λ l. spending t (r .counts) _ _ _ _ f (stays (f .completions)) (rises (f .ran)) (stays (f .blocked)) (stays (f .worst)))
     (λ l h. spending t (r .counts) _ _ _ _ f (stays (f .completions)) (rises (f .ran)) (stays (f .blocked)) (stays (f .worst)))
     (λ l h. spending t (r .counts) _ _ _ _ f (rises (f .completions)) (rises (f .ran)) (stays (f .blocked)) (worse (r .job .release) (f .worst)))
 
+-- those of every rank
 counts-spent : (x : Runner) (t i : ℕ) (task : Task) (r : TaskRecord) → Rising t (r .counts) → CountsFit (t + 1) (spent x t i task r .counts)
 counts-spent x t i task r f = spent-cases (λ y. CountsFit (t + 1) (y .counts)) x t i task r
     (λ e. counts-advanced t task r f)
     (λ k e l p. spending t (r .counts) _ _ _ _ f (stays (f .completions)) (stays (f .ran)) (rises (f .blocked)) (stays (f .worst)))
-    (λ e. spending t (r .counts) _ _ _ _ f (stays (f .completions)) (stays (f .ran)) (stays (f .blocked)) (stays (f .worst)))
+    (λ e p. spending t (r .counts) _ _ _ _ f (stays (f .completions)) (stays (f .ran)) (stays (f .blocked)) (stays (f .worst)))
 
 -- jobs: one that waits, one that starts, and the runner
 job-waits : (t : ℕ) (task : Task) (j : Job) → JobFits t task j → JobFits (t + 1) task j
 job-waits t task j f = record { rests = f .rests; release = λ p. omega (arith, f .release p); stands = f .stands }
 
+-- after the releases: a job that starts stands at a run or a lock, released at t
 job-released : (m t : ℕ) (task : Task) (r : TaskRecord) → TaskLimits m task → JobFits t task (r .job) → JobFits (t + 1) task (released t task r .job)
 unfolding ahead
 job-released m t task r τ f = released-cases (λ x. JobFits (t + 1) task (x .job)) t task r
@@ -110,6 +120,7 @@ job-released m t task r τ f = released-cases (λ x. JobFits (t + 1) task (x .jo
     (λ e p. job-waits t task (r .job) f)
     (λ e p. record { rests = λ q. true-false true refl q; release = λ q. omega arith; stands = λ q. begins-well m task τ })
 
+-- the runner stands at its run, at its next step, or has completed
 job-advanced : (m t : ℕ) (task : Task) (r : TaskRecord) → TaskLimits m task → r .job .pending ≡ true → JobFits (t + 1) task (r .job)
     → JobFits (t + 1) task (advanced t task r .job)
 unfolding ahead
@@ -134,6 +145,7 @@ only-free true free run e h = e
 only-free false true run e h = refl
 only-free false false run e h = true-false run e h
 
+-- a semaphore it takes has a ceiling of at most its own rank: were it held by another, it would not be free of ceilings
 taken-alone : (sheet : Sheet) (rs : List TaskRecord) (x k s : ℕ) → Runs sheet rs x → takes (taskAt sheet x) (recordAt rs x .job) s ≡ true
     → k < 16 → s < 16 → holds sheet rs k s ≡ true → k ≡ x
 unfolding mayGo goes freeOfCeilings heldByOther ceiling
@@ -150,8 +162,9 @@ taken-alone sheet rs x k s ρ e lk ls h =
     absurd (omega (arith, above, ceiled)))
     (sure (k =? x))
 
--- a tick, rank by rank
-module _ (bytes : List ℕ) (sheet : Sheet) (e : readSheet bytes ≡ read sheet) (st : State) (π : Possible sheet st) (early : st .t < 60000) where
+-- a tick of a possible state, rank by rank
+module _ (bytes : List ℕ) (sheet : Sheet) (e : readSheet bytes ≡ read sheet) (st : State) (π : Possible sheet st) where
+  -- the sheet's tasks, the records after the releases, the runner, and the records after it
   abbrev n : ℕ
   n = length (sheet .tasks)
 
@@ -172,71 +185,75 @@ module _ (bytes : List ℕ) (sheet : Sheet) (e : readSheet bytes ≡ read sheet)
       (λ (u : n ≤ i). subst P (sym (past-at sheet st i l u)) (past u))
       (below i n)
 
-  rising : (i : ℕ) → i < 16 → Rising (st .t) (recordAt rs i .counts)
-  rising i l = each-released (λ r. Rising (st .t) (r .counts)) i l
+  -- counts,
+  pub released-rising : (i : ℕ) → i < 16 → Rising (st .t) (recordAt rs i .counts)
+  released-rising i l = each-released (λ r. Rising (st .t) (r .counts)) i l
       (λ u. counts-released (st .t) (taskAt sheet i) (recordAt (st .tasks) i) (π .counts i l))
       (λ u. counts-wait (st .t) (recordAt (st .tasks) i .counts) (π .counts i l))
 
-  fits : (i : ℕ) → i < 16 → JobFits (st .t + 1) (taskAt sheet i) (recordAt rs i .job)
-  fits i l = each-released (λ r. JobFits (st .t + 1) (taskAt sheet i) (r .job)) i l
+  -- jobs,
+  pub released-fits : (i : ℕ) → i < 16 → JobFits (st .t + 1) (taskAt sheet i) (recordAt rs i .job)
+  released-fits i l = each-released (λ r. JobFits (st .t + 1) (taskAt sheet i) (r .job)) i l
       (λ u. job-released (sheet .semaphores) (st .t) (taskAt sheet i) (recordAt (st .tasks) i) (acceptedWithinLimits bytes sheet e .each i u) (π .job i l))
       (λ u. job-waits (st .t) (taskAt sheet i) (recordAt (st .tasks) i .job) (π .job i l))
 
+  -- what they hold,
   held-before : (i s : ℕ) → i < 16 → holds sheet rs i s ≡ true → holds sheet (st .tasks) i s ≡ true
   unfolding holds
   held-before i s l = each-released (λ r. carries (taskAt sheet i) (r .job) s ≡ true → carries (taskAt sheet i) (recordAt (st .tasks) i .job) s ≡ true) i l
       (λ u. released-carries (st .t) (taskAt sheet i) (recordAt (st .tasks) i) s)
       (λ u h. h)
 
-  rest-past : (i : ℕ) → i < 16 → n ≤ i → recordAt rs i ≡ blank
-  rest-past i l h = past-at sheet st i l h ∙ π .past i l h
+  -- and the records at n and above
+  pub released-past : (i : ℕ) → i < 16 → n ≤ i → recordAt rs i ≡ blank
+  released-past i l h = past-at sheet st i l h ∙ π .past i l h
 
   -- the runner is pending, so it is a rank below n
-  runner-rank : (k : ℕ) → x ≡ job k → k < n
+  pub runner-rank : (k : ℕ) → x ≡ job k → k < n
   runner-rank k z =
       let ρ = runner-runs sheet rs k z in
       ⊎-elim (λ u. u)
-      (λ (u : n ≤ k). true-false (recordAt rs k .job .pending) (ρ .pending) (ap (λ (r : TaskRecord). r .job .pending) (rest-past k (ρ .rank) u)))
+      (λ (u : n ≤ k). true-false (recordAt rs k .job .pending) (ρ .pending) (ap (λ (r : TaskRecord). r .job .pending) (released-past k (ρ .rank) u)))
       (below k n)
 
-  runner-next : (i : ℕ) → x ≡ job i → NextRun (taskAt sheet i) (recordAt rs i .job)
+  -- and comes to a run
+  pub runner-next : (i : ℕ) → x ≡ job i → NextRun (taskAt sheet i) (recordAt rs i .job)
   runner-next i z =
       let ρ = runner-runs sheet rs i z in
-      next-run (sheet .semaphores) (taskAt sheet i) (recordAt rs i .job) (acceptedWithinLimits bytes sheet e .each i (runner-rank i z)) (fits i (ρ .rank) .stands (ρ .pending))
+      next-run (sheet .semaphores) (taskAt sheet i) (recordAt rs i .job) (acceptedWithinLimits bytes sheet e .each i (runner-rank i z)) (released-fits i (ρ .rank) .stands (ρ .pending))
 
   -- after the runner
   next-fits : (i : ℕ) → i < 16 → JobFits (st .t + 1) (taskAt sheet i) (recordAt next i .job)
   next-fits i l = subst (λ (r : TaskRecord). JobFits (st .t + 1) (taskAt sheet i) (r .job)) (sym (spent-at x sheet (st .t) rs i l))
       (spent-cases (λ r. JobFits (st .t + 1) (taskAt sheet i) (r .job)) x (st .t) i (taskAt sheet i) (recordAt rs i)
-      (λ z. job-advanced (sheet .semaphores) (st .t) (taskAt sheet i) (recordAt rs i) (acceptedWithinLimits bytes sheet e .each i (runner-rank i z)) (runner-runs sheet rs i z .pending) (fits i l))
-      (λ k z u p. fits i l)
-      (λ z. fits i l))
+      (λ z. job-advanced (sheet .semaphores) (st .t) (taskAt sheet i) (recordAt rs i) (acceptedWithinLimits bytes sheet e .each i (runner-rank i z)) (runner-runs sheet rs i z .pending) (released-fits i l))
+      (λ k z u p. released-fits i l)
+      (λ z p. released-fits i l))
 
+  -- the records at n and above: none of them runs, and none is blocked
   next-past : (i : ℕ) → i < 16 → n ≤ i → recordAt next i ≡ blank
   next-past i l h = spent-at x sheet (st .t) rs i l ∙ spent-cases (λ r. r ≡ blank) x (st .t) i (taskAt sheet i) (recordAt rs i)
       (λ z. absurd (omega (arith, runner-rank i z)))
       (λ k z u p. absurd (omega (arith, runner-rank k z)))
-      (λ z. rest-past i l h)
+      (λ z p. released-past i l h)
 
   -- a job holds what it held, or it is the runner and took it
-  next-holds : (i s : ℕ) → i < 16 → holds sheet next i s ≡ true
-      → (holds sheet rs i s ≡ true) ⊎ ((x ≡ job i) × (takes (taskAt sheet i) (recordAt rs i .job) s ≡ true))
+  abbrev HeldOrTook : (i s : ℕ) → Type 0
+  HeldOrTook i s = (holds sheet rs i s ≡ true) ⊎ ((x ≡ job i) × (takes (taskAt sheet i) (recordAt rs i .job) s ≡ true))
+
+  held-or-took : (i s : ℕ) → i < 16 → holds sheet next i s ≡ true → HeldOrTook i s
   unfolding holds
-  next-holds i s l h = spent-cases
-      (λ r. carries (taskAt sheet i) (r .job) s ≡ true → (holds sheet rs i s ≡ true) ⊎ ((x ≡ job i) × (takes (taskAt sheet i) (recordAt rs i .job) s ≡ true)))
-      x (st .t) i (taskAt sheet i) (recordAt rs i)
+  held-or-took i s l h = spent-cases (λ r. carries (taskAt sheet i) (r .job) s ≡ true → HeldOrTook i s) x (st .t) i (taskAt sheet i) (recordAt rs i)
       (λ z c. ⊎-elim inl (λ v. inr (z, v)) (advanced-carries (st .t) (taskAt sheet i) (recordAt rs i) s (runner-runs sheet rs i z .pending) (runner-next i z) c))
       (λ k z u p c. inl c)
-      (λ z c. inl c)
+      (λ z p c. inl c)
       (subst (λ (r : TaskRecord). carries (taskAt sheet i) (r .job) s ≡ true) (spent-at x sheet (st .t) rs i l) h)
 
+  -- so no semaphore is held by two
   next-single : (i j s : ℕ) → i < 16 → j < 16 → s < 16 → holds sheet next i s ≡ true → holds sheet next j s ≡ true → i ≡ j
-  next-single i j s li lj ls hi hj = go (next-holds i s li hi) (next-holds j s lj hj)
+  next-single i j s li lj ls hi hj = go (held-or-took i s li hi) (held-or-took j s lj hj)
     where
-      Before : ℕ → Type 0
-      Before k = (holds sheet rs k s ≡ true) ⊎ ((x ≡ job k) × (takes (taskAt sheet k) (recordAt rs k .job) s ≡ true))
-
-      go : Before i → Before j → i ≡ j
+      go : HeldOrTook i s → HeldOrTook j s → i ≡ j
       go (inl a) (inl b) = π .single i j s li lj ls (held-before i s li a) (held-before j s lj b)
       go (inl a) (inr b) = taken-alone sheet rs j i s (runner-runs sheet rs j (b .0)) (b .1) li ls a
       go (inr a) (inl b) = sym (taken-alone sheet rs i j s (runner-runs sheet rs i (a .0)) (a .1) lj ls b)
@@ -249,21 +266,38 @@ module _ (bytes : List ℕ) (sheet : Sheet) (e : readSheet bytes ≡ read sheet)
   byte-fits stuck h = inr (inl refl)
   byte-fits idle h = inr (inr refl)
 
+  -- at most one switch a tick
   switches-rise : (b : Bool) → (if b then st .switches else st .switches + 1) ≤ st .t + 1
   switches-rise true = omega (arith, π .switches)
   switches-rise false = omega (arith, π .switches)
 
-  tick-parts : Possible sheet (tick sheet st)
+  -- all parts together
+  pub tick-parts : st .t < 60000 → Possible sheet (tick sheet st)
   unfolding tick closed
-  tick-parts = record {
+  tick-parts early = record {
     time = omega arith;
     switches = switches-rise (runnerByte x =? st .last);
     last = byte-fits x runner-rank;
-    counts = λ i l. subst (λ (r : TaskRecord). CountsFit (st .t + 1) (r .counts)) (sym (spent-at x sheet (st .t) rs i l)) (counts-spent x (st .t) i (taskAt sheet i) (recordAt rs i) (rising i l));
+    counts = λ i l. subst (λ (r : TaskRecord). CountsFit (st .t + 1) (r .counts)) (sym (spent-at x sheet (st .t) rs i l)) (counts-spent x (st .t) i (taskAt sheet i) (recordAt rs i) (released-rising i l));
     job = next-fits;
     past = next-past;
     single = next-single;
   }
 
+-- THE LAW: a tick of a possible state below tick 60,000 gives a possible state
 pub tickPossible : TickPossible
 tickPossible bytes sheet e st p early = parts-possible sheet (tick sheet st) (tick-parts bytes sheet e st (possible-parts sheet st p) early)
+
+-- so a run that ends by tick 60,000 keeps it so, and each tick of it counts one
+pub after-time : (h : ℕ) (sheet : Sheet) (st : State) → after h sheet st .t ≡ st .t + h
+unfolding after tick closed
+after-time zero sheet st = omega arith
+after-time (suc h) sheet st = omega (arith, after-time h sheet st)
+
+-- the record after it is possible
+pub after-possible : (bytes : List ℕ) (sheet : Sheet) → readSheet bytes ≡ read sheet
+    → (h : ℕ) (st : State) → possible sheet st ≡ true → st .t + h ≤ 60000 → possible sheet (after h sheet st) ≡ true
+unfolding after
+after-possible bytes sheet e zero st p l = p
+after-possible bytes sheet e (suc h) st p l =
+    tickPossible bytes sheet e (after h sheet st) (after-possible bytes sheet e h st p (omega arith)) (omega (arith, after-time h sheet st))

@@ -40,6 +40,7 @@ steps-limits m i (suc n) before bytes steps e =
     let r = steps-limits m i n (before ++ (x ∷ [])) (drop 3 bytes) steps (past12 .1) in
     (x ∷ r .0, r .1 ∙ append-assoc before (x ∷ []) (r .0), ap suc (r .2), (step-limits m (byte bytes 0) (word bytes 1) (past11 .0), r .3))
 
+-- a task that was read keeps its limits
 pub task-limits : (m i : ℕ) (bytes : List ℕ) (x : Task × List ℕ) → readTask m i bytes ≡ read x → TaskLimits m (x .0)
 task-limits m i bytes x e =
     let τ = task-read m i bytes x e in
@@ -62,6 +63,7 @@ task-size m i bytes x e =
     let left : length (x .1) ≡ length bytes - (5 + 3 * byte bytes 4) = ap length (τ .rest) ∙ length-drop (5 + 3 * byte bytes 4) bytes in
     omega (arith, left, τ .countTo)
 
+-- n tasks, n times that
 tasks-size : (m i n : ℕ) (bytes : List ℕ) (x : List Task × List ℕ) → readTasks m i n bytes ≡ read x → length bytes ≤ n * 197 + length (x .1)
 unfolding readTasks
 tasks-size m i zero bytes x e = omega (arith, ap (λ (y : List Task × List ℕ). length (y .1)) (got ([], bytes) x e))
@@ -78,6 +80,7 @@ sheet-size bytes sheet e =
     let size = tasks-size (sheet .semaphores) 0 (byte bytes 5) (drop 8 bytes) (sheet .tasks, α .rest) (α .tasks) in
     omega (arith, α .few, α .ends, size, length-drop 8 bytes)
 
+-- THE LAW: an accepted sheet keeps document 01's limits
 pub acceptedWithinLimits : AcceptedWithinLimits
 acceptedWithinLimits bytes sheet e =
     let α = accepted bytes sheet e in

@@ -21,6 +21,7 @@ nests h b (run n ∷ steps) = nests h false steps
 nests h b (lock s ∷ steps) = not (among s h || 4 ≤? length h) && nests (s ∷ h) true steps
 nests h b (unlock s ∷ steps) = not (not (among s (take 1 h)) || b) && nests (without s h) false steps
 
+-- what is held behind more steps: these on top of what the first have held
 pub held-snoc : (before : List ℕ) (steps more : List Step) → heldOnTop before (steps ++ more) ≡ heldOnTop (heldOnTop before steps) more
 unfolding heldOnTop
 held-snoc before [] more = refl
@@ -28,6 +29,7 @@ held-snoc before (run n ∷ steps) more = held-snoc before steps more
 held-snoc before (lock s ∷ steps) more = held-snoc (s ∷ before) steps more
 held-snoc before (unlock s ∷ steps) more = held-snoc (without s before) steps more
 
+-- was the last step a lock
 pub afterLock : List Step → Bool
 afterLock before = any isLock (take 1 (reverse before))
 
@@ -35,6 +37,7 @@ after-snoc : (before : List Step) (x : Step) → afterLock (before ++ (x ∷ [])
 unfolding afterLock any
 after-snoc before x = rw (reverse-append before (x ∷ [])) (or-false (isLock x))
 
+-- the two tests agree
 placed-nests : (before steps : List Step) → placed before steps ≡ nests (held before) (afterLock before) steps
 unfolding placed nests misplaced held heldOnTop isLock afterLock
 placed-nests before [] = refl
@@ -49,6 +52,7 @@ abbrev Distinct : List ℕ → Type 0
 Distinct [] = Unit {0}
 Distinct (s ∷ h) = (among s h ≡ false) × Distinct h
 
+-- what is not held cannot be taken away
 without-absent : (s : ℕ) (h : List ℕ) → among s h ≡ false → without s h ≡ h
 unfolding without among any
 without-absent s [] e = refl
@@ -77,6 +81,7 @@ unfolding flag
 flag-some b [] l = absurd (omega arith)
 flag-some b (x ∷ steps) l = refl
 
+-- an unlock of the newest
 unlock-nests : (s : ℕ) (h : List ℕ) (more : List Step) → among s h ≡ false → nests (s ∷ h) false (unlock s ∷ more) ≡ nests h false more
 unfolding nests among any
 unlock-nests s h more e =
@@ -84,6 +89,7 @@ unlock-nests s h more e =
     let left : without s (s ∷ h) ≡ h = without-newest s h e in
     rw (same, left) refl
 
+-- a body passes with anything behind it
 body-nests : {h : List ℕ} {steps : List Step} → Body h steps → Distinct h → (b : Bool) (more : List Step) → nests h b (steps ++ more) ≡ nests h (flag b steps) more
 unfolding flag nests
 body-nests end d b more = refl
@@ -108,11 +114,13 @@ Rest [] b steps = Body [] steps
 Rest (s ∷ h) b steps =
     (inside : List Step) × (rest : List Step) × (steps ≡ inside ++ (unlock s ∷ rest)) × (b ≡ true → 1 ≤ length inside) × Body (s ∷ h) inside × Rest h false rest
 
+-- a run before the rest,
 rest-run : (n : ℕ) (h : List ℕ) (b : Bool) (steps : List Step) → Rest h false steps → Rest h b (run n ∷ steps)
 unfolding Rest
 rest-run n [] b steps β = aRun β
 rest-run n (s ∷ h) b steps r = (run n ∷ r .0, r .1, ap (λ (x : List Step). run n ∷ x) (r .2), (λ e. omega arith), aRun (r .4), r .5)
 
+-- and a section before it
 rest-section : (s : ℕ) (h : List ℕ) (b : Bool) (inside rest : List Step) → among s h ≡ false → length h < 4 → 1 ≤ length inside → Body (s ∷ h) inside
     → Rest h false rest → Rest h b (lock s ∷ inside ++ (unlock s ∷ rest))
 unfolding Rest
@@ -130,10 +138,12 @@ or-too : (a b : Bool) → (a || b) ≡ false → b ≡ false
 or-too true b e = true-false true refl e
 or-too false b e = e
 
+-- the newest is the first
 newest : (s u : ℕ) → among s (u ∷ []) ≡ true → u ≡ s
 unfolding among any
 newest s u e = ⊎-elim (λ v. eqb-true u s v) (λ v. true-false false v refl) (or-cases (u =? s) false e)
 
+-- what passes has such a rest
 nests-rest : (steps : List Step) (h : List ℕ) (b : Bool) → Distinct h → nests h b steps ≡ true → Rest h b steps
 unfolding nests Rest among any
 nests-rest [] [] b d e = end
@@ -158,6 +168,7 @@ nests-rest (unlock s ∷ steps) (u ∷ h) b d e =
       nests-rest steps h false (d .1) (ap (λ (g : List ℕ). nests g false steps) (sym left) ∙ and-right (not (not (among s (u ∷ [])) || b)) _ e),
     )
 
+-- THE LAW: 12 is given exactly for steps that form no body
 pub nesting : Nesting
 unfolding held afterLock heldOnTop any Rest
 nesting steps = (
@@ -168,6 +179,7 @@ nesting steps = (
 not-and : (a b : Bool) → a ≡ false → b ≡ true → (not a && b) ≡ true
 not-and a b p q = rw (p, q) refl
 
+-- steps that pass 12 pass it from any place on,
 placed-on : (k : ℕ) (before steps : List Step) → placed before steps ≡ true → placed (before ++ take k steps) (drop k steps) ≡ true
 unfolding placed
 placed-on zero before steps e = rw (append-nil before) e
@@ -176,6 +188,7 @@ placed-on (suc k) before (x ∷ steps) e =
     ap (λ (xs : List Step). placed xs (drop k steps)) (sym (append-assoc before (x ∷ []) (take k steps)))
     ∙ placed-on k (before ++ (x ∷ [])) steps (and-right (not (misplaced before x)) _ e)
 
+-- with what is held there
 pub nests-on : (k : ℕ) (steps : List Step) → Body [] steps → nests (held (take k steps)) (afterLock (take k steps)) (drop k steps) ≡ true
 nests-on k steps β = sym (placed-nests (take k steps) (drop k steps)) ∙ placed-on k [] steps (nesting steps .1 β)
 
@@ -193,6 +206,7 @@ steps-placed m i (suc n) before bytes steps e =
     let r = steps-placed m i n (before ++ (x ∷ [])) (drop 3 bytes) steps (past12 .1) in
     (x ∷ r .0, r .1 ∙ append-assoc before (x ∷ []) (r .0), not-and (misplaced before x) _ (past12 .0) (r .2))
 
+-- so the steps of every task that was read pass
 pub task-placed : (m i : ℕ) (bytes : List ℕ) (x : Task × List ℕ) → readTask m i bytes ≡ read x → placed [] (x .0 .steps) ≡ true
 task-placed m i bytes x e =
     let r = steps-placed m i (byte bytes 4) [] (drop 5 bytes) (x .0 .steps) (task-read m i bytes x e .steps) in

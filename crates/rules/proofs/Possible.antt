@@ -11,7 +11,7 @@ use Rattle.rules.specs.Words.{if_then_else_, _<?_, _≤?_, _=?_, _⇒_, 
 use Rattle.rules.specs.Sheet.{Step, run, lock, unlock, Task, Sheet, taskAt}
 use Rattle.rules.specs.Reading.{read, readSheet}
 use Rattle.rules.specs.Record.{noJob, noCounts, blank, recordAt, ahead, holds, place, counted, zeros, countsFit, runnerFits, zeroRecord, standsWell, jobFits, recordFits, noneHeldByTwo, possible}
-use Rattle.rules.specs.Laws.{All, StepLimits}
+use Rattle.rules.specs.Laws.{All, StepLimits, TaskLimits}
 use Rattle.rules.specs.declared.Job.{Job}
 use Rattle.rules.specs.declared.Counts.{Counts}
 use Rattle.rules.specs.declared.TaskRecord.{TaskRecord}
@@ -66,6 +66,7 @@ counts-fit t c e =
       worst = leb-true (c .worst) t (and-left (c .worst ≤? t) _ past5);
     }
 
+-- the counts, back
 pub fit-counts : (t : ℕ) (c : Counts) → CountsFit t c → countsFit t c ≡ true
 unfolding countsFit counted all
 fit-counts t c f =
@@ -85,6 +86,7 @@ rests j p e =
     same : (p : Bool) (a b c : ℕ) → p ≡ false → a ≡ 0 → b ≡ 0 → c ≡ 0 → record { pending = p; position = a; left = b; release = c } ≡ noJob
     same p a b c w x y z = rw (w, x, y, z) refl
 
+-- a job
 pub job-fits : (t : ℕ) (task : Task) (j : Job) → jobFits t task j ≡ true → JobFits t task j
 unfolding jobFits
 job-fits t task j e = go (j .pending) refl e
@@ -101,6 +103,7 @@ job-fits t task j e = go (j .pending) refl e
       stands = λ q. true-false (j .pending) q p;
     }
 
+-- a job, back
 pub fit-job : (t : ℕ) (task : Task) (j : Job) → JobFits t task j → jobFits t task j ≡ true
 unfolding jobFits zeros place all
 fit-job t task j f = go (j .pending) refl
@@ -130,6 +133,7 @@ no-counts c e =
         → record { releases = u; completions = v; misses = w; ran = x; blocked = y; worst = z } ≡ noCounts
     same u v w x y z e1 e2 e3 e4 e5 e6 = rw (e1, e2, e3, e4, e5, e6) refl
 
+-- a zero record is blank
 pub is-blank : (r : TaskRecord) → zeroRecord r ≡ true → r ≡ blank
 unfolding zeroRecord
 is-blank r e =
@@ -146,6 +150,7 @@ runner-fits n x e = ⊎-elim
     (λ (u : (x =? 255) ≡ true). inr (inr (eqb-true x 255 u)))
     (or-cases (x <? n || x =? 254) (x =? 255) e)
 
+-- the last runner, back
 pub fit-runner : (n x : ℕ) → RunnerFits n x → runnerFits n x ≡ true
 unfolding runnerFits
 fit-runner n x (inl l) = rw (lt-ltb x n l) refl
@@ -154,9 +159,11 @@ fit-runner n x (inr (inr e)) = rw e (or-right (255 <? n || false) true refl)
 
 -- the whole
 module _ (sheet : Sheet) (st : State) where
+  -- the test of one rank
   Rank : ℕ → Bool
   Rank i = recordFits sheet (st .t) i (recordAt (st .tasks) i)
 
+  -- the test tells every part
   pub possible-parts : possible sheet st ≡ true → Possible sheet st
   unfolding possible noneHeldByTwo recordFits Rank
   possible-parts e =
@@ -181,6 +188,7 @@ module _ (sheet : Sheet) (st : State) where
             eqb-true i j (implies-yes (holds sheet (st .tasks) i s && holds sheet (st .tasks) j s) (i =? j) (every-at 16 _ at-i j lj) (and-both _ _ hi hj));
       }
 
+  -- and the parts give the test
   pub parts-possible : Possible sheet st → possible sheet st ≡ true
   unfolding possible noneHeldByTwo recordFits Rank zeroRecord zeros place counted all
   parts-possible f =
@@ -209,11 +217,13 @@ stands-inside (suc k) left [] e = true-false false e refl
 stands-inside zero left (x ∷ steps) e = omega arith
 stands-inside (suc k) left (x ∷ steps) e = omega (arith, stands-inside k left steps e)
 
+-- what holds of every step holds of every step ahead
 pub all-drop : {A : Type 0} (P : A → Type 0) (k : ℕ) (xs : List A) → All P xs → All P (drop k xs)
 all-drop P zero xs h = h
 all-drop P (suc k) [] h = tt
 all-drop P (suc k) (x ∷ xs) h = all-drop P k xs (h .1)
 
+-- where each step keeps its limits, so does what is left of one
 stands-left : (m left : ℕ) (steps : List Step) → All (StepLimits m) steps → standsWell steps left ≡ true → left ≤ 1000
 unfolding standsWell within
 stands-left m left [] h e = true-false false e refl
@@ -221,32 +231,32 @@ stands-left m left (run n ∷ steps) h e = omega (arith, h .0 .1, leb-true left 
 stands-left m left (lock s ∷ steps) h e = omega (arith, eqb-true left 0 e)
 stands-left m left (unlock s ∷ steps) h e = true-false false e refl
 
--- the numbers of each job of a possible state, pending or not
+-- the numbers of a job that fits, pending or not
 pub record Ranges (t : ℕ) (j : Job) : Type 0 where
   pub position : j .position < 64
   pub left : j .left ≤ 1000
   pub release : j .release ≤ t
 
-resting : (t : ℕ) (j : Job) → j ≡ noJob → Ranges t j
-resting t j e = subst (Ranges t) (sym e) (record { position = omega arith; left = omega arith; release = omega arith })
+-- a task with no job pending has zeros
+rests-inside : (t : ℕ) (j : Job) → j ≡ noJob → Ranges t j
+rests-inside t j e = subst (Ranges t) (sym e) (record { position = omega arith; left = omega arith; release = omega arith })
 
+-- and a pending job stands inside its steps
+pub job-ranges : (m t : ℕ) (task : Task) (j : Job) → TaskLimits m task → JobFits t task j → Ranges t j
+unfolding ahead
+job-ranges m t task j τ f = ⊎-elim
+    (λ (p : j .pending ≡ true). record {
+      position = omega (arith, τ .stepsTo, stands-inside (j .position) (j .left) (task .steps) (f .stands p));
+      left = stands-left m (j .left) (ahead task j) (all-drop (StepLimits m) (j .position) (task .steps) (τ .steps)) (f .stands p);
+      release = omega (arith, f .release p);
+    })
+    (λ (p : j .pending ≡ false). rests-inside t j (f .rests p))
+    (sure (j .pending))
+
+-- of each job of a possible state
 pub ranges : (bytes : List ℕ) (sheet : Sheet) → readSheet bytes ≡ read sheet
     → (st : State) → Possible sheet st → (i : ℕ) → i < 16 → Ranges (st .t) (recordAt (st .tasks) i .job)
-unfolding ahead
-ranges bytes sheet e st π i l =
-    let j = recordAt (st .tasks) i .job in
-    let task = taskAt sheet i in
-    ⊎-elim
-    (λ (u : i < length (sheet .tasks)). ⊎-elim
-    (λ (p : j .pending ≡ true).
-    let τ = acceptedWithinLimits bytes sheet e .each i u in
-    let stands = π .job i l .stands p in
-    record {
-      position = omega (arith, τ .stepsTo, stands-inside (j .position) (j .left) (task .steps) stands);
-      left = stands-left (sheet .semaphores) (j .left) (ahead task j) (all-drop (StepLimits (sheet .semaphores)) (j .position) (task .steps) (τ .steps)) stands;
-      release = omega (arith, π .job i l .release p);
-    })
-    (λ (p : j .pending ≡ false). resting (st .t) j (π .job i l .rests p))
-    (sure (j .pending)))
-    (λ (u : length (sheet .tasks) ≤ i). resting (st .t) j (ap (λ (r : TaskRecord). r .job) (π .past i l u)))
+ranges bytes sheet e st π i l = ⊎-elim
+    (λ (u : i < length (sheet .tasks)). job-ranges (sheet .semaphores) (st .t) (taskAt sheet i) (recordAt (st .tasks) i .job) (acceptedWithinLimits bytes sheet e .each i u) (π .job i l))
+    (λ (u : length (sheet .tasks) ≤ i). rests-inside (st .t) (recordAt (st .tasks) i .job) (ap (λ (r : TaskRecord). r .job) (π .past i l u)))
     (below i (length (sheet .tasks)))

@@ -23,9 +23,11 @@ unfolding _>>=_ refuse_of_at_when_
 passed number rank step true rest x e = absurd (let c : _≡_ {A = ℕ} 0 1 = cc in omega arith)
 passed number rank step false rest x e = (refl, e)
 
+-- what was read is one thing
 pub got : {A : Type 0} (x y : A) → read x ≡ read y → x ≡ y
 got x y e = cc
 
+-- as many tasks are read as are asked for
 pub tasks-length : (m i n : ℕ) (bytes : List ℕ) (x : List Task × List ℕ) → readTasks m i n bytes ≡ read x → length (x .0) ≡ n
 unfolding readTasks
 tasks-length m i zero bytes x e = ap (λ (y : List Task × List ℕ). length (y .0)) (sym (got ([], bytes) x e))
@@ -65,14 +67,17 @@ pub record TaskRead (m i : ℕ) (bytes : List ℕ) (x : Task × List ℕ) : Type
   pub steps : readSteps m i (byte bytes 4) [] (drop 5 bytes) ≡ read (x .0 .steps)
   pub rest : x .1 ≡ drop (5 + 3 * byte bytes 4) bytes
 
+-- a number that was not turned away for its range lies in it: from below,
 pub within-from : (low high x : ℕ) → not (within low high x) ≡ false → low ≤ x
 unfolding within
 within-from low high x e = leb-true low x (and-left (low ≤? x) (x ≤? high) (not-false (within low high x) e))
 
+-- and from above
 pub within-to : (low high x : ℕ) → not (within low high x) ≡ false → x ≤ high
 unfolding within
 within-to low high x e = leb-true x high (and-right (low ≤? x) (x ≤? high) (not-false (within low high x) e))
 
+-- every task that was read went through these
 pub task-read : (m i : ℕ) (bytes : List ℕ) (x : Task × List ℕ) → readTask m i bytes ≡ read x → TaskRead m i bytes x
 unfolding readTask
 task-read m i bytes x e =
@@ -106,6 +111,7 @@ pub record Accepted (bytes : List ℕ) (sheet : Sheet) : Type 0 where
   pub tasks : readTasks (sheet .semaphores) 0 (byte bytes 5) (drop 8 bytes) ≡ read (sheet .tasks, rest)
   pub ends : length rest ≡ 0
 
+-- every accepted sheet went through these
 pub accepted : (bytes : List ℕ) (sheet : Sheet) → readSheet bytes ≡ read sheet → Accepted bytes sheet
 unfolding readSheet
 accepted bytes sheet e =
@@ -135,6 +141,7 @@ sheet-count bytes sheet e =
     let α = accepted bytes sheet e in
     tasks-length (sheet .semaphores) 0 (byte bytes 5) (drop 8 bytes) (sheet .tasks, α .rest) (α .tasks)
 
+-- which is at most sixteen
 pub sheet-few : (bytes : List ℕ) (sheet : Sheet) → readSheet bytes ≡ read sheet → length (sheet .tasks) ≤ 16
 sheet-few bytes sheet e = omega (arith, accepted bytes sheet e .few, sheet-count bytes sheet e)
 
@@ -147,6 +154,7 @@ each-task-of P h bytes sheet e i l =
     let m = sheet .semaphores in
     each-read (P m) m (h m) 0 (byte bytes 5) (drop 8 bytes) (sheet .tasks, α .rest) (α .tasks) i l
 
+-- the same, whatever the semaphore count
 pub each-task : (P : Task → Type 0) → ((m i : ℕ) (bytes : List ℕ) (x : Task × List ℕ) → readTask m i bytes ≡ read x → P (x .0))
     → (bytes : List ℕ) (sheet : Sheet) → readSheet bytes ≡ read sheet → (i : ℕ) → i < length (sheet .tasks) → P (taskAt sheet i)
 each-task P = each-task-of (λ m. P)

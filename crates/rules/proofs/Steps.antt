@@ -22,6 +22,7 @@ use Rattle.rules.proofs.Nesting.{nests, held-snoc, afterLock, nests-on}
 use Rattle.rules.proofs.Possible.{all-drop}
 use Rattle.rules.proofs.Tick.{advanced-cases}
 
+-- an either that is denied
 not-either : (a b : Bool) → b ≡ true → not (a || b) ≡ false
 not-either a b e = ap not (or-right a b e)
 
@@ -46,6 +47,7 @@ pub record NextRun (task : Task) (j : Job) : Type 0 where
 
 -- at a run it is that run, with what is left of it; at a lock it is the run behind the locks, with its full length left
 module _ (m : ℕ) (task : Task) (j : Job) (τ : TaskLimits m task) where
+  -- at a run: that run
   run-next : (n : ℕ) (rest : List Step) → ahead task j ≡ run n ∷ rest → within 1 n (j .left) ≡ true → NextRun task j
   unfolding ahead nextRun leftOfRun leading isLock within
   run-next n rest at e =
@@ -60,6 +62,7 @@ module _ (m : ℕ) (task : Task) (j : Job) (τ : TaskLimits m task) where
         to = omega (arith, left, leb-true (j .left) n (and-right (1 ≤? j .left) _ e));
       }
 
+  -- at a lock: the run behind the locks,
   behind-locks : (s : ℕ) (rest : List Step) → ahead task j ≡ lock s ∷ rest → (n : ℕ) × (more : List Step) × (drop (leading isLock rest) rest ≡ run n ∷ more)
   unfolding ahead nests
   behind-locks s rest at =
@@ -67,6 +70,7 @@ module _ (m : ℕ) (task : Task) (j : Job) (τ : TaskLimits m task) where
       let nested = ap (nests h (afterLock (take (j .position) (task .steps)))) (sym at) ∙ nests-on (j .position) (task .steps) (τ .body) in
       locks-run (s ∷ h) rest (omega arith) (and-right (not (among s h || 4 ≤? length h)) _ nested)
 
+  -- of which the full length is left
   lock-next : (s n : ℕ) (rest more : List Step) → ahead task j ≡ lock s ∷ rest → drop (leading isLock rest) rest ≡ run n ∷ more → NextRun task j
   unfolding ahead nextRun leftOfRun leading isLock full
   lock-next s n rest more at run-there =
@@ -80,6 +84,7 @@ module _ (m : ℕ) (task : Task) (j : Job) (τ : TaskLimits m task) where
       let ticks = subst (All (StepLimits m)) there (all-drop (StepLimits m) (nextRun task j) (task .steps) (τ .steps)) .0 in
       record { ticks = n; rest = more; there = there; from = omega (arith, left, ticks .0); to = omega (arith, left) }
 
+  -- so from wherever a job stands well, it comes to a run
   pub next-run : standsWell (ahead task j) (j .left) ≡ true → NextRun task j
   unfolding standsWell
   next-run e = go (ahead task j) refl e
@@ -113,6 +118,7 @@ body-first end = refl
 body-first (aRun β) = refl
 body-first (aSection new few some β γ) = refl
 
+-- so a job that starts stands well
 pub begins-well : (m : ℕ) (task : Task) → TaskLimits m task → standsWell (task .steps) (full (task .steps)) ≡ true
 begins-well m task τ = full-stands m (task .steps) (τ .steps) (τ .stepsFrom) (body-first (τ .body))
 
@@ -124,6 +130,7 @@ no-more (run n ∷ steps) = refl
 no-more (lock s ∷ steps) = refl
 no-more (unlock s ∷ steps) = no-more steps
 
+-- so a job that comes to a next step stands well
 pub comes-well : (m : ℕ) (task : Task) (j : Job) → TaskLimits m task → behindUnlocks task j < length (task .steps)
     → standsWell (drop (behindUnlocks task j) (task .steps)) (full (drop (behindUnlocks task j) (task .steps))) ≡ true
 unfolding behindUnlocks
@@ -149,6 +156,7 @@ takes-no-run task j s e = go (ahead task j) e
     go (lock u ∷ steps) e = refl
     go (unlock u ∷ steps) e = refl
 
+-- and its task has a lock of s
 pub takes-locks : (task : Task) (j : Job) (s : ℕ) → takes task j s ≡ true → locks task s ≡ true
 unfolding takes locks ahead
 takes-locks task j s e = any-drop (isLockOf s) (j .position) (task .steps) (any-take (isLockOf s) (leading isLock (ahead task j)) (ahead task j) e)
@@ -171,6 +179,7 @@ unlocks-free s h (run n ∷ steps) e = e
 unlocks-free s h (lock u ∷ steps) e = e
 unlocks-free s h (unlock u ∷ steps) e = among-without s u h (unlocks-free s (without u h) steps e)
 
+-- its run changes nothing, and then come only unlocks
 held-behind-run : (task : Task) (j : Job) (s : ℕ) → NextRun task j → among s (held (take (behindUnlocks task j) (task .steps))) ≡ true
     → among s (held (take (nextRun task j) (task .steps))) ≡ true
 unfolding behindUnlocks held heldOnTop

@@ -13,7 +13,7 @@ use Rattle.rules.specs.Choice.{Runner, job, stuck, idle, full}
 use Rattle.rules.specs.Tick.{standing, releasesUp, missesUp, ranUp, blockedUp, completionsUp, releasesAt, released, afterReleases, nextRun, leftOfRun, behindUnlocks, advanced, spent, afterRunner}
 use Rattle.rules.specs.declared.TaskRecord.{TaskRecord}
 use Rattle.rules.specs.declared.State.{State}
-use Rattle.rules.proofs.Laws.{and-left, and-right, if-cases, row-at}
+use Rattle.rules.proofs.Laws.{and-left, and-right, and-denied, if-cases, row-at}
 
 -- 1. a release that misses, and one that starts a job
 abbrev pub missed : TaskRecord → TaskRecord
@@ -22,6 +22,7 @@ missed r = record { job = r .job; counts = missesUp (releasesUp (r .counts)) }
 abbrev pub begun : (t : ℕ) → Task → TaskRecord → TaskRecord
 begun t task r = record { job = standing 0 (full (task .steps)) t; counts = releasesUp (r .counts) }
 
+-- no release, a miss, or a start
 pub released-cases : (P : TaskRecord → Type 0) (t : ℕ) (task : Task) (r : TaskRecord)
     → (releasesAt t task ≡ false → P r)
     → (releasesAt t task ≡ true → r .job .pending ≡ true → P (missed r))
@@ -43,6 +44,7 @@ cameTo task r = record { job = standing (behindUnlocks task (r .job)) (full (dro
 abbrev pub completed : (t : ℕ) → TaskRecord → TaskRecord
 completed t r = record { job = noJob; counts = completionsUp (t + 1 - r .job .release) (r .counts) }
 
+-- each where rule 5 says so
 pub advanced-cases : (P : TaskRecord → Type 0) (t : ℕ) (task : Task) (r : TaskRecord)
     → (1 < leftOfRun task (r .job) → P (wentOn task r))
     → (leftOfRun task (r .job) ≤ 1 → behindUnlocks task (r .job) < length (task .steps) → P (cameTo task r))
@@ -66,10 +68,22 @@ hasRun t task r = record { job = advanced t task r .job; counts = ranUp (advance
 abbrev pub wasBlocked : TaskRecord → TaskRecord
 wasBlocked r = record { job = r .job; counts = blockedUp (r .counts) }
 
+-- (nobody who is stuck or idle runs)
+stuck-runs : {A : Type 0} (k : ℕ) → stuck ≡ job k → A
+stuck-runs k z = absurd (let c : _≡_ {A = ℕ} 0 1 = cc in omega arith)
+
+idle-runs : {A : Type 0} (k : ℕ) → idle ≡ job k → A
+idle-runs k z = absurd (let c : _≡_ {A = ℕ} 0 1 = cc in omega arith)
+
+-- (a runner has one rank)
+same-rank : (i k : ℕ) → job i ≡ job k → i ≡ k
+same-rank i k z = cc
+
+-- the runner, a pending job of smaller rank, or any other, whose record stays
 pub spent-cases : (P : TaskRecord → Type 0) (x : Runner) (t i : ℕ) (task : Task) (r : TaskRecord)
     → (x ≡ job i → P (hasRun t task r))
     → ((k : ℕ) → x ≡ job k → i < k → r .job .pending ≡ true → P (wasBlocked r))
-    → ((x ≡ job i → ⊥) → P r)
+    → ((x ≡ job i → ⊥) → ((k : ℕ) → x ≡ job k → i < k → r .job .pending ≡ false) → P r)
     → P (spent x t i task r)
 unfolding spent
 spent-cases P (job x) t i task r runs waits rests =
@@ -77,9 +91,11 @@ spent-cases P (job x) t i task r runs waits rests =
     (λ e. runs (ap job (sym (eqb-true i x e))))
     (λ e. if-cases P (i <? x && r .job .pending) _ _
     (λ u. waits x refl (ltb-true i x (and-left (i <? x) _ u)) (and-right (i <? x) _ u))
-    (λ u. rests (λ z. eqb-false i x e (let same : i ≡ x = cc in same))))
-spent-cases P stuck t i task r runs waits rests = rests (λ z. let c : _≡_ {A = ℕ} 0 1 = cc in omega arith)
-spent-cases P idle t i task r runs waits rests = rests (λ z. let c : _≡_ {A = ℕ} 0 1 = cc in omega arith)
+    (λ u. rests
+    (λ z. eqb-false i x e (sym (same-rank x i z)))
+    (λ k z l. and-denied (i <? x) (r .job .pending) u (lt-ltb i x (omega (arith, same-rank x k z))))))
+spent-cases P stuck t i task r runs waits rests = rests (stuck-runs i) (λ k z. stuck-runs k z)
+spent-cases P idle t i task r runs waits rests = rests (idle-runs i) (λ k z. idle-runs k z)
 
 -- the record of each rank after the releases, and after the runner
 pub released-at : (sheet : Sheet) (st : State) (i : ℕ) → i < 16 → i < length (sheet .tasks)
@@ -87,10 +103,12 @@ pub released-at : (sheet : Sheet) (st : State) (i : ℕ) → i < 16 → i < leng
 unfolding afterReleases recordAt
 released-at sheet st i l h = row-at 16 _ blank i l ∙ (rw (lt-ltb i (length (sheet .tasks)) h) refl)
 
+-- (those at n and above have no release)
 pub past-at : (sheet : Sheet) (st : State) (i : ℕ) → i < 16 → length (sheet .tasks) ≤ i → recordAt (afterReleases sheet st) i ≡ recordAt (st .tasks) i
 unfolding afterReleases recordAt
 past-at sheet st i l h = row-at 16 _ blank i l ∙ (rw (le-ltb i (length (sheet .tasks)) h) refl)
 
+-- after the runner
 pub spent-at : (x : Runner) (sheet : Sheet) (t : ℕ) (records : List TaskRecord) (i : ℕ) → i < 16
     → recordAt (afterRunner x sheet t records) i ≡ spent x t i (taskAt sheet i) (recordAt records i)
 unfolding afterRunner recordAt
