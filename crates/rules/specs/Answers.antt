@@ -78,17 +78,18 @@ readTick bytes st = do
   refuse 17 when st .t =? 60000
   read sheet
 
-unfoldable pub ticked : (bytes : List ℕ) → State → Ticked
-ticked bytes st =
-    let r = readTick bytes st in
-    record { refusal = why r; runner = made r 0 λ sheet. tick sheet st .last; state = made r st λ sheet. tick sheet st }
-
--- The record stands in the caller's memory and a tick updates it there. Both forms agree.
 unfoldable pub told : (bytes : List ℕ) → State → Told
-told bytes st = record { refusal = ticked bytes st .refusal; runner = ticked bytes st .runner }
+told bytes st =
+    let r = readTick bytes st in
+    record { refusal = why r; runner = made r 0 λ sheet. tick sheet st .last }
 
 unfoldable pub recordAfter : (bytes : List ℕ) → State → State
-recordAfter bytes st = ticked bytes st .state
+recordAfter bytes st = made (readTick bytes st) st λ sheet. tick sheet st
+
+-- The record stands in the caller's memory and a tick updates it there; a second form takes the record and hands the next
+-- one back. Both agree.
+unfoldable pub ticked : (bytes : List ℕ) → State → Ticked
+ticked bytes st = record { told = told bytes st; state = recordAfter bytes st }
 
 -- A call with a horizon tests 14, then 15. Refused, the record is zero and no lent byte differs.
 unfoldable pub readRun : (bytes : List ℕ) (horizon : ℕ) (buffer : List ℕ) → Reading Sheet

@@ -1,7 +1,7 @@
 -- BOUNDS AND LAXITIES.
 use Prim.Native.Nat.{ℕ, zero, suc, _+_, _-_, _*_, _/_}
 use mathlib.Core.List.{List, [], _∷_}
-use mathlib.Core.Bool.{Bool, _&&_}
+use mathlib.Core.Bool.{Bool}
 use lib.ListN.{drop}
 use lib.IntN.{ℤ, pos, _-ℤ_}
 use lib.Signed.{leZ}

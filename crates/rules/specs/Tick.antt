@@ -1,7 +1,7 @@
 -- ONE TICK: what it does with the runner, rules 1, 5, 6 and 7.
 use Prim.Native.Nat.{ℕ, _+_, _-_, _%_, max}
 use mathlib.Core.List.{List}
-use mathlib.Core.Bool.{Bool, true, false, not, _&&_}
+use mathlib.Core.Bool.{Bool, true, not, _&&_}
 use lib.ListN.{length, drop}
 use Rattle.rules.specs.Words.{if_then_else_, _<?_, _≤?_, _=?_, row, leading}
 use Rattle.rules.specs.Sheet.{Task, Sheet, taskAt, isLock, isUnlock}

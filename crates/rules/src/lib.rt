@@ -72,17 +72,16 @@ pub struct Laxities {
     pub laxities: [Laxity; 16],
 }
 
-// One tick by value: who ran, and the next record.
-pub struct Ticked {
-    pub refusal: Refusal,
-    pub runner: u8,
-    pub state: State,
-}
-
-// One tick in the caller's memory: who ran.
+// What a tick tells: who ran.
 pub struct Told {
     pub refusal: Refusal,
     pub runner: u8,
+}
+
+// One tick by value: what it tells, and the next record.
+pub struct Ticked {
+    pub told: Told,
+    pub state: State,
 }
 
 // A whole run: the record at its end.
