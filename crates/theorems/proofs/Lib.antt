@@ -1,0 +1,9 @@
+pub mod Refusals
+pub mod Answers
+pub mod Demand3
+pub mod NoFreedom
+pub mod Runs
+pub mod Totals
+pub mod Needed
+pub mod Shams
+pub mod Analysis
