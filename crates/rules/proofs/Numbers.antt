@@ -1,60 +1,129 @@
--- Every refusal has a number: 0 says that the call was not turned away.
-use Prim.Native.Nat.{ℕ, zero, suc, _+_, _≤_}
-use mathlib.Core.Path.{_≡_, refl, sym, ap}
-use mathlib.Core.List.{List}
-use mathlib.Core.Bool.{Bool, true, false}
+-- Every refusal has a number and its place: so it is of each test, and of tests in turn. 0 says that the call went through.
+use Prim.Native.Nat.{ℕ, zero, suc, _+_, _≤_, _<_}
+use mathlib.Core.Path.{_≡_, refl, ap}
+use mathlib.Core.Logic.{_⊎_, ⊎-elim}
+use mathlib.Core.List.{List, [], _∷_, _++_}
+use mathlib.Core.Bool.{Bool, true, false, not, _&&_}
 use native.Mathlib.Omega.{arith}
-use Rattle.rules.specs.Sheet.{Step, Task, Sheet}
-use Rattle.rules.specs.Reading.{Reading, read, refused, refusal, _>>=_, refuse_of_at_when_, byte, word, readSteps, readTask, readTasks, readSheet}
+use lib.ListN.{length, drop, length-append}
+use borrow.Author.Tests.{leb-true, not-false}
+use Rattle.rules.specs.Words.{_≤?_, within}
+use Rattle.rules.specs.Sheet.{Step, Sheet}
+use Rattle.rules.specs.Reading.{Reading, read, refused, refusal, _>>=_, refuse_of_at_when_, byte, stepOf, word, readSteps, readTask, readTasks, readSheet}
+use Rattle.rules.specs.Laws.{Given}
 use Rattle.rules.specs.Answers.{why, readTick, readRun}
-use Rattle.rules.specs.declared.Refusal.{Refusal}
 use Rattle.rules.specs.declared.State.{State}
+use Rattle.rules.specs.declared.Refusal.{Refusal}
+use Rattle.rules.proofs.Laws.{and-left, and-right}
 
--- what was read has no number, and what was refused has one
+-- what was read has no number; a refusal has one, and its place
 abbrev pub Numbered : {A : Type 0} → Reading A → Type 0
 Numbered (read a) = Unit {0}
-Numbered (refused x) = 1 ≤ x .number
+Numbered (refused x) = Given x
 
-then : {A B : Type 0} (r : Reading A) (f : A → Reading B) → Numbered r → ((a : A) → Numbered (f a)) → Numbered (r >>= f)
+given-bind : {A B : Type 0} (r : Reading A) (f : A → Reading B) → Numbered r → ((a : A) → Numbered (f a)) → Numbered (r >>= f)
 unfolding _>>=_
-then (read a) f p q = q a
-then (refused x) f p q = p
+given-bind (read a) f g h = h a
+given-bind (refused x) f g h = g
 
-tested : {B : Type 0} (number rank step : ℕ) (test : Bool) (rest : Reading B) → 1 ≤ number → Numbered rest → Numbered (refuse_of_at_when_ number rank step test >>= λ u. rest)
+given-test : {B : Type 0} (number rank step : ℕ) (test : Bool) (rest : Reading B) → Given (refusal number rank step) → (test ≡ false → Numbered rest)
+    → Numbered (refuse_of_at_when_ number rank step test >>= λ passed. rest)
 unfolding _>>=_ refuse_of_at_when_
-tested number rank step true rest p q = p
-tested number rank step false rest p q = q
+given-test number rank step true rest g h = g
+given-test number rank step false rest g h = h refl
 
-steps-numbered : (m i n : ℕ) (before : List Step) (bytes : List ℕ) → Numbered (readSteps m i n before bytes)
+from-to : (low high x : ℕ) → (low ≤? x && x ≤? high) ≡ true → (low ≤ x) × (x ≤ high)
+from-to low high x e = (leb-true low x (and-left (low ≤? x) (x ≤? high) e), leb-true x high (and-right (low ≤? x) (x ≤? high) e))
+
+neither : (low high x : ℕ) → (low ≤ x) × (x ≤ high) → (x < low) ⊎ (high < x) → ⊥
+neither low high x l u = ⊎-elim (λ v. omega arith) (λ v. omega arith) u
+
+-- the three kinds: of a step, of a task, of the whole
+ofStep : (number rank step : ℕ) → (11 ≤? number && number ≤? 12) ≡ true → rank < 16 → step ≤ 64 → Given (refusal number rank step)
+ofStep number rank step e r s = let l = from-to 11 12 number e in record {
+  some = omega arith;
+  number = omega arith;
+  rank = λ u. absurd (neither 7 12 number (omega arith, l .1) u);
+  rankTo = r;
+  step = λ u. absurd (neither 11 12 number l u);
+  stepTo = s;
+}
+
+ofTask : (number rank : ℕ) → (7 ≤? number && number ≤? 12) ≡ true → rank < 16 → Given (refusal number rank 0)
+ofTask number rank e r = let l = from-to 7 12 number e in record {
+  some = omega arith;
+  number = omega arith;
+  rank = λ u. absurd (neither 7 12 number l u);
+  rankTo = r;
+  step = λ u. refl;
+  stepTo = omega arith;
+}
+
+ofWhole : (number : ℕ) → (1 ≤? number && number ≤? 17) ≡ true → Given (refusal number 0 0)
+ofWhole number e = let l = from-to 1 17 number e in record {
+  some = l .0;
+  number = l .1;
+  rank = λ u. refl;
+  rankTo = omega arith;
+  step = λ u. refl;
+  stepTo = omega arith;
+}
+
+steps-numbered : (m i n : ℕ) (before : List Step) (bytes : List ℕ) → i < 16 → length before + n ≤ 64 → Numbered (readSteps m i n before bytes)
 unfolding readSteps
-steps-numbered m i zero before bytes = tested 12 _ _ _ _ (omega arith) tt
-steps-numbered m i (suc n) before bytes = tested 11 _ _ _ _ (omega arith) (tested 12 _ _ _ _ (omega arith) (steps-numbered m i n _ _))
+steps-numbered m i zero before bytes l h = given-test 12 i (length before) _ _ (ofStep 12 i _ refl l (omega arith)) (λ u. tt)
+steps-numbered m i (suc n) before bytes l h =
+    let x = stepOf (byte bytes 0) (word bytes 1) in
+    given-test 11 i (length before) _ _ (ofStep 11 i _ refl l (omega arith)) λ u.
+    given-test 12 i (length before) _ _ (ofStep 12 i _ refl l (omega arith)) λ v.
+    steps-numbered m i n (before ++ (x ∷ [])) (drop 3 bytes) l (omega (arith, length-append before (x ∷ [])))
 
-task-numbered : (m i : ℕ) (bytes : List ℕ) → Numbered (readTask m i bytes)
-unfolding readTask
-task-numbered m i bytes =
-    tested 7 _ _ _ _ (omega arith) (tested 8 _ _ _ _ (omega arith) (tested 9 _ _ _ _ (omega arith) (tested 10 _ _ _ _ (omega arith) (tested 7 _ _ _ _ (omega arith)
-    (then (readSteps m i (byte bytes 4) _ _) _ (steps-numbered m i (byte bytes 4) _ _) (λ steps. tt))))))
+task-numbered : (m i : ℕ) (bytes : List ℕ) → i < 16 → Numbered (readTask m i bytes)
+unfolding readTask within
+task-numbered m i bytes l =
+    let count = byte bytes 4 in
+    given-test 7 i 0 _ _ (ofTask 7 i refl l) λ u.
+    given-test 8 i 0 _ _ (ofTask 8 i refl l) λ u.
+    given-test 9 i 0 _ _ (ofTask 9 i refl l) λ u.
+    given-test 10 i 0 (not (within 1 64 count)) _ (ofTask 10 i refl l) λ some.
+    given-test 7 i 0 _ _ (ofTask 7 i refl l) λ u.
+    given-bind (readSteps m i count [] (drop 5 bytes)) _
+    (steps-numbered m i count [] (drop 5 bytes) l (omega (arith, from-to 1 64 count (not-false (within 1 64 count) some))))
+    (λ steps. tt)
 
-tasks-numbered : (m i n : ℕ) (bytes : List ℕ) → Numbered (readTasks m i n bytes)
+tasks-numbered : (m i n : ℕ) (bytes : List ℕ) → i + n ≤ 16 → Numbered (readTasks m i n bytes)
 unfolding readTasks
-tasks-numbered m i zero bytes = tt
-tasks-numbered m i (suc n) bytes =
-    then (readTask m i bytes) _ (task-numbered m i bytes) (λ x. then (readTasks m (i + 1) n (x .1)) _ (tasks-numbered m (i + 1) n (x .1)) (λ y. tt))
+tasks-numbered m i zero bytes l = tt
+tasks-numbered m i (suc n) bytes l =
+    given-bind (readTask m i bytes) _ (task-numbered m i bytes (omega arith))
+    (λ one. given-bind (readTasks m (i + 1) n (one .1)) _ (tasks-numbered m (i + 1) n (one .1) (omega arith)) (λ more. tt))
 
 pub sheet-numbered : (bytes : List ℕ) → Numbered (readSheet bytes)
-unfolding readSheet
+unfolding readSheet within
 sheet-numbered bytes =
-    tested 1 _ _ _ _ (omega arith) (tested 2 _ _ _ _ (omega arith) (tested 3 _ _ _ _ (omega arith) (tested 4 _ _ _ _ (omega arith) (tested 5 _ _ _ _ (omega arith) (tested 6 _ _ _ _ (omega arith)
-    (then (readTasks (byte bytes 6) 0 (byte bytes 5) _) _ (tasks-numbered (byte bytes 6) 0 (byte bytes 5) _) (λ x. tested 13 _ _ _ _ (omega arith) tt)))))))
+    let n = byte bytes 5 in
+    let m = byte bytes 6 in
+    given-test 1 0 0 _ _ (ofWhole 1 refl) λ u.
+    given-test 2 0 0 _ _ (ofWhole 2 refl) λ u.
+    given-test 3 0 0 _ _ (ofWhole 3 refl) λ u.
+    given-test 4 0 0 (not (within 1 16 n)) _ (ofWhole 4 refl) λ few.
+    given-test 5 0 0 _ _ (ofWhole 5 refl) λ u.
+    given-test 6 0 0 _ _ (ofWhole 6 refl) λ u.
+    given-bind (readTasks m 0 n (drop 8 bytes)) _
+    (tasks-numbered m 0 n (drop 8 bytes) (omega (arith, from-to 1 16 n (not-false (within 1 16 n) few))))
+    (λ tasks. given-test 13 0 0 _ _ (ofWhole 13 refl) λ u. tt)
 
 pub tick-numbered : (bytes : List ℕ) (st : State) → Numbered (readTick bytes st)
 unfolding readTick
-tick-numbered bytes st = then (readSheet bytes) _ (sheet-numbered bytes) (λ sheet. tested 16 _ _ _ _ (omega arith) (tested 17 _ _ _ _ (omega arith) tt))
+tick-numbered bytes st = given-bind (readSheet bytes) _ (sheet-numbered bytes) λ sheet.
+    given-test 16 0 0 _ _ (ofWhole 16 refl) λ u.
+    given-test 17 0 0 _ _ (ofWhole 17 refl) λ u. tt
 
 pub run-numbered : (bytes : List ℕ) (horizon : ℕ) (buffer : List ℕ) → Numbered (readRun bytes horizon buffer)
 unfolding readRun
-run-numbered bytes horizon buffer = then (readSheet bytes) _ (sheet-numbered bytes) (λ sheet. tested 14 _ _ _ _ (omega arith) (tested 15 _ _ _ _ (omega arith) tt))
+run-numbered bytes horizon buffer = given-bind (readSheet bytes) _ (sheet-numbered bytes) λ sheet.
+    given-test 14 0 0 _ _ (ofWhole 14 refl) λ u.
+    given-test 15 0 0 _ _ (ofWhole 15 refl) λ u. tt
 
 -- a call that gives number 0 was read
 pub was-read : {A : Type 0} (r : Reading A) → Numbered r → why r .number ≡ 0 → (a : A) × (r ≡ read a)

@@ -1,7 +1,7 @@
 -- WHAT FOLLOWS: laws that make the definitions trustworthy. Each is proved in proofs/.
 use Prim.Native.Nat.{ℕ, _*_, _≤_, _<_}
 use mathlib.Core.Path.{_≡_}
-use mathlib.Core.Logic.{_↔_}
+use mathlib.Core.Logic.{_⊎_, _↔_}
 use mathlib.Core.List.{List, [], _∷_, _++_}
 use mathlib.Core.Bool.{Bool, true, false, not, _&&_}
 use lib.ListN.{length}
@@ -14,6 +14,7 @@ use Rattle.rules.specs.Record.{start, possible}
 use Rattle.rules.specs.Choice.{Runner, Walks, topJob, runner}
 use Rattle.rules.specs.Tick.{tick}
 use Rattle.rules.specs.Bounds.{demand, laxity}
+use Rattle.rules.specs.declared.Refusal.{Refusal}
 use Rattle.rules.specs.declared.TaskRecord.{TaskRecord}
 use Rattle.rules.specs.declared.State.{State}
 
@@ -57,6 +58,16 @@ pub record Limits (bytes : List ℕ) (sheet : Sheet) : Type 0 where
 
 abbrev pub AcceptedWithinLimits : Type 0
 AcceptedWithinLimits = (bytes : List ℕ) (sheet : Sheet) → readSheet bytes ≡ read sheet → Limits bytes sheet
+
+-- A refusal gives its number, 1 to 17, the task's rank (7 to 12, else 0) and the step's index (11 and 12, else 0). A rank is
+-- below 16, and a step is at most 64, which is a step count where sections are open.
+pub record Given (x : Refusal) : Type 0 where
+  pub some : 1 ≤ x .number
+  pub number : x .number ≤ 17
+  pub rank : (x .number < 7) ⊎ (12 < x .number) → x .rank ≡ 0
+  pub rankTo : x .rank < 16
+  pub step : (x .number < 11) ⊎ (12 < x .number) → x .step ≡ 0
+  pub stepTo : x .step ≤ 64
 
 -- Rule 4 as computed finds what document 01 says: the first candidate that may go, or a candidate that comes round again.
 abbrev pub WalksToRunner : Type 0

@@ -1,137 +1,24 @@
--- Every refusal has a number and its place: so it is of each test, and of tests in turn.
-use Prim.Native.Nat.{ℕ, zero, suc, _+_, _≤_, _<_}
+-- The number in an answer tells whether the call went through, and each refusal has its place.
+use Prim.Native.Nat.{ℕ}
 use mathlib.Core.Path.{_≡_, refl, ap}
-use mathlib.Core.Logic.{_⊎_, ⊎-elim}
-use mathlib.Core.List.{List, [], _∷_, _++_}
-use mathlib.Core.Bool.{Bool, true, false, not, _&&_}
-use native.Mathlib.Omega.{arith}
-use lib.ListN.{length, drop, length-append}
-use borrow.Author.Tests.{leb-true, not-false}
-use Rattle.rules.specs.Words.{_≤?_, within}
-use Rattle.rules.specs.Sheet.{Step, Sheet}
-use Rattle.rules.specs.Reading.{Reading, read, refused, refusal, _>>=_, refuse_of_at_when_, byte, stepOf, word, readSteps, readTask, readTasks, readSheet}
+use mathlib.Core.Logic.{inl, inr}
+use mathlib.Core.List.{List}
+use Rattle.rules.specs.Sheet.{Sheet}
+use Rattle.rules.specs.Reading.{Reading, read, refused, readSheet}
 use Rattle.rules.specs.Answers.{why, check, ceilings, bounds, laxities, readTick, ticked, told, readRun, ran, recordAfter}
 use Rattle.rules.specs.declared.State.{State}
-use Rattle.rules.specs.declared.Refusal.{Refusal}
-use Rattle.rules.proofs.Laws.{and-left, and-right}
-use Rattle.theorems.specs.Refusals.{Refused, NotRefused, Numbered, Tells, NumberTells}
-
--- a refusal is one, and has its place
-record Given (x : Refusal) : Type 0 where
-  some : Refused x
-  place : Numbered x
-
-abbrev AllGiven : {A : Type 0} → Reading A → Type 0
-AllGiven (read a) = Unit {0}
-AllGiven (refused x) = Given x
-
-given-bind : {A B : Type 0} (r : Reading A) (f : A → Reading B) → AllGiven r → ((a : A) → AllGiven (f a)) → AllGiven (r >>= f)
-unfolding _>>=_
-given-bind (read a) f g h = h a
-given-bind (refused x) f g h = g
-
-given-test : {B : Type 0} (number rank step : ℕ) (test : Bool) (rest : Reading B) → Given (refusal number rank step) → (test ≡ false → AllGiven rest)
-    → AllGiven (refuse_of_at_when_ number rank step test >>= λ passed. rest)
-unfolding _>>=_ refuse_of_at_when_
-given-test number rank step true rest g h = g
-given-test number rank step false rest g h = h refl
-
-from-to : (low high x : ℕ) → (low ≤? x && x ≤? high) ≡ true → (low ≤ x) × (x ≤ high)
-from-to low high x e = (leb-true low x (and-left (low ≤? x) (x ≤? high) e), leb-true x high (and-right (low ≤? x) (x ≤? high) e))
-
-neither : (low high x : ℕ) → (low ≤ x) × (x ≤ high) → (x < low) ⊎ (high < x) → ⊥
-neither low high x l u = ⊎-elim (λ v. omega arith) (λ v. omega arith) u
-
--- the three kinds: of a step, of a task, of the whole
-ofStep : (number rank step : ℕ) → (11 ≤? number && number ≤? 12) ≡ true → rank < 16 → step ≤ 64 → Given (refusal number rank step)
-ofStep number rank step e r s = let l = from-to 11 12 number e in record {
-  some = omega arith;
-  place = record { number = omega arith; rank = λ u. absurd (neither 7 12 number (omega arith, l .1) u); rankTo = r; step = λ u. absurd (neither 11 12 number l u); stepTo = s };
-}
-
-ofTask : (number rank : ℕ) → (7 ≤? number && number ≤? 12) ≡ true → rank < 16 → Given (refusal number rank 0)
-ofTask number rank e r = let l = from-to 7 12 number e in record {
-  some = omega arith;
-  place = record { number = omega arith; rank = λ u. absurd (neither 7 12 number l u); rankTo = r; step = λ u. refl; stepTo = omega arith };
-}
-
-ofWhole : (number : ℕ) → (1 ≤? number && number ≤? 17) ≡ true → Given (refusal number 0 0)
-ofWhole number e = let l = from-to 1 17 number e in record {
-  some = l .0;
-  place = record { number = l .1; rank = λ u. refl; rankTo = omega arith; step = λ u. refl; stepTo = omega arith };
-}
-
-steps-given : (m i n : ℕ) (before : List Step) (bytes : List ℕ) → i < 16 → length before + n ≤ 64 → AllGiven (readSteps m i n before bytes)
-unfolding readSteps
-steps-given m i zero before bytes l h = given-test 12 i (length before) _ _ (ofStep 12 i _ refl l (omega arith)) (λ u. tt)
-steps-given m i (suc n) before bytes l h =
-    let x = stepOf (byte bytes 0) (word bytes 1) in
-    given-test 11 i (length before) _ _ (ofStep 11 i _ refl l (omega arith)) λ u.
-    given-test 12 i (length before) _ _ (ofStep 12 i _ refl l (omega arith)) λ v.
-    steps-given m i n (before ++ (x ∷ [])) (drop 3 bytes) l (omega (arith, length-append before (x ∷ [])))
-
-task-given : (m i : ℕ) (bytes : List ℕ) → i < 16 → AllGiven (readTask m i bytes)
-unfolding readTask within
-task-given m i bytes l =
-    let count = byte bytes 4 in
-    given-test 7 i 0 _ _ (ofTask 7 i refl l) λ u.
-    given-test 8 i 0 _ _ (ofTask 8 i refl l) λ u.
-    given-test 9 i 0 _ _ (ofTask 9 i refl l) λ u.
-    given-test 10 i 0 (not (within 1 64 count)) _ (ofTask 10 i refl l) λ some.
-    given-test 7 i 0 _ _ (ofTask 7 i refl l) λ u.
-    given-bind (readSteps m i count [] (drop 5 bytes)) _
-    (steps-given m i count [] (drop 5 bytes) l (omega (arith, from-to 1 64 count (not-false (within 1 64 count) some))))
-    (λ steps. tt)
-
-tasks-given : (m i n : ℕ) (bytes : List ℕ) → i + n ≤ 16 → AllGiven (readTasks m i n bytes)
-unfolding readTasks
-tasks-given m i zero bytes l = tt
-tasks-given m i (suc n) bytes l =
-    given-bind (readTask m i bytes) _ (task-given m i bytes (omega arith))
-    (λ one. given-bind (readTasks m (i + 1) n (one .1)) _ (tasks-given m (i + 1) n (one .1) (omega arith)) (λ more. tt))
-
-sheet-given : (bytes : List ℕ) → AllGiven (readSheet bytes)
-unfolding readSheet within
-sheet-given bytes =
-    let n = byte bytes 5 in
-    let m = byte bytes 6 in
-    given-test 1 0 0 _ _ (ofWhole 1 refl) λ u.
-    given-test 2 0 0 _ _ (ofWhole 2 refl) λ u.
-    given-test 3 0 0 _ _ (ofWhole 3 refl) λ u.
-    given-test 4 0 0 (not (within 1 16 n)) _ (ofWhole 4 refl) λ few.
-    given-test 5 0 0 _ _ (ofWhole 5 refl) λ u.
-    given-test 6 0 0 _ _ (ofWhole 6 refl) λ u.
-    given-bind (readTasks m 0 n (drop 8 bytes)) _
-    (tasks-given m 0 n (drop 8 bytes) (omega (arith, from-to 1 16 n (not-false (within 1 16 n) few))))
-    (λ tasks. given-test 13 0 0 _ _ (ofWhole 13 refl) λ u. tt)
-
-tick-given : (bytes : List ℕ) (st : State) → AllGiven (readTick bytes st)
-unfolding readTick
-tick-given bytes st = given-bind (readSheet bytes) _ (sheet-given bytes) λ sheet.
-    given-test 16 0 0 _ _ (ofWhole 16 refl) λ u.
-    given-test 17 0 0 _ _ (ofWhole 17 refl) λ u. tt
-
-run-given : (bytes : List ℕ) (horizon : ℕ) (buffer : List ℕ) → AllGiven (readRun bytes horizon buffer)
-unfolding readRun
-run-given bytes horizon buffer = given-bind (readSheet bytes) _ (sheet-given bytes) λ sheet.
-    given-test 14 0 0 _ _ (ofWhole 14 refl) λ u.
-    given-test 15 0 0 _ _ (ofWhole 15 refl) λ u. tt
-
--- so the number tells
-was-read : (r : Reading Sheet) → AllGiven r → NotRefused (why r) → (sheet : Sheet) × (r ≡ read sheet)
-unfolding why
-was-read (read sheet) g e = (sheet, refl)
-was-read (refused x) g e = absurd (omega (arith, g .some))
+use Rattle.rules.proofs.Numbers.{Numbered as AllGiven, sheet-numbered as all-sheet, tick-numbered as all-tick, run-numbered as all-run, was-read}
+use Rattle.theorems.specs.Refusals.{Numbered, Tells, NumberTells}
 
 tells : (r : Reading Sheet) → AllGiven r → Tells (why r) r
 unfolding why
 tells r g = (was-read r g, λ (sheet, e). ap (λ (x : Reading Sheet). why x .number) e)
 
 sheet-tells : (bytes : List ℕ) → Tells (why (readSheet bytes)) (readSheet bytes)
-sheet-tells bytes = tells (readSheet bytes) (sheet-given bytes)
+sheet-tells bytes = tells (readSheet bytes) (all-sheet bytes)
 
 tick-tells : (bytes : List ℕ) (st : State) → Tells (why (readTick bytes st)) (readTick bytes st)
-tick-tells bytes st = tells (readTick bytes st) (tick-given bytes st)
+tick-tells bytes st = tells (readTick bytes st) (all-tick bytes st)
 
 pub numberTells : NumberTells
 unfolding check ceilings bounds laxities ticked told ran recordAfter
@@ -142,20 +29,20 @@ numberTells = record {
   ofLaxities = sheet-tells;
   ofTick = tick-tells;
   ofTickInPlace = tick-tells;
-  ofRun = λ bytes horizon buffer. tells (readRun bytes horizon buffer) (run-given bytes horizon buffer);
+  ofRun = λ bytes horizon buffer. tells (readRun bytes horizon buffer) (all-run bytes horizon buffer);
 }
 
 -- and the answer has its place
 numbered : {A : Type 0} (r : Reading A) → AllGiven r → Numbered (why r)
 unfolding why
-numbered (read a) g = record { number = omega arith; rank = λ u. refl; rankTo = omega arith; step = λ u. refl; stepTo = omega arith }
-numbered (refused x) g = g .place
+numbered (read a) g = inl refl
+numbered (refused x) g = inr g
 
 pub sheet-numbered : (bytes : List ℕ) → Numbered (why (readSheet bytes))
-sheet-numbered bytes = numbered (readSheet bytes) (sheet-given bytes)
+sheet-numbered bytes = numbered (readSheet bytes) (all-sheet bytes)
 
 pub tick-numbered : (bytes : List ℕ) (st : State) → Numbered (why (readTick bytes st))
-tick-numbered bytes st = numbered (readTick bytes st) (tick-given bytes st)
+tick-numbered bytes st = numbered (readTick bytes st) (all-tick bytes st)
 
 pub run-numbered : (bytes : List ℕ) (horizon : ℕ) (buffer : List ℕ) → Numbered (why (readRun bytes horizon buffer))
-run-numbered bytes horizon buffer = numbered (readRun bytes horizon buffer) (run-given bytes horizon buffer)
+run-numbered bytes horizon buffer = numbered (readRun bytes horizon buffer) (all-run bytes horizon buffer)

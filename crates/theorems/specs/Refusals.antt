@@ -1,10 +1,11 @@
 -- WHAT A REFUSAL SAYS.
-use Prim.Native.Nat.{ℕ, _≤_, _<_}
+use Prim.Native.Nat.{ℕ, _≤_}
 use mathlib.Core.Path.{_≡_}
 use mathlib.Core.Logic.{_⊎_, _↔_}
 use mathlib.Core.List.{List}
 use Rattle.rules.specs.Sheet.{Sheet}
-use Rattle.rules.specs.Reading.{Reading, read, readSheet}
+use Rattle.rules.specs.Reading.{Reading, read, refusal, readSheet}
+use Rattle.rules.specs.Laws.{Given}
 use Rattle.rules.specs.Answers.{check, ceilings, bounds, laxities, readTick, ticked, told, readRun, ran}
 use Rattle.rules.specs.declared.State.{State}
 use Rattle.rules.specs.declared.Refusal.{Refusal}
@@ -16,15 +17,9 @@ Refused x = 1 ≤ x .number
 abbrev pub NotRefused : Refusal → Type 0
 NotRefused x = x .number ≡ 0
 
--- A refusal gives its number, 1 to 17, the task's rank (7 to 12, else 0) and the step's index (11 and 12, else 0).
--- A rank is below 16; a step is at most 64, which is a step count where sections are open. A call that goes through has 0
--- for all three.
-pub record Numbered (x : Refusal) : Type 0 where
-  pub number : x .number ≤ 17
-  pub rank : (x .number < 7) ⊎ (12 < x .number) → x .rank ≡ 0
-  pub rankTo : x .rank < 16
-  pub step : (x .number < 11) ⊎ (12 < x .number) → x .step ≡ 0
-  pub stepTo : x .step ≤ 64
+-- What an answer says of its refusal: zero for all three where the call goes through, and else what document 01 gives.
+abbrev pub Numbered : Refusal → Type 0
+Numbered x = (x ≡ refusal 0 0 0) ⊎ Given x
 
 -- The number in an answer tells a caller all: it is 0 exactly where the sheet was read and every test passed.
 abbrev pub Tells : Refusal → Reading Sheet → Type 0

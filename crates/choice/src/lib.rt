@@ -1,0 +1,316 @@
+// The choice of the runner: rules 2 to 4 of document 01.
+ghost use mathlib.Core.Path.{_≡_};
+ghost use mathlib.Core.List.{[]};
+ghost use mathlib.Core.Bool.{false};
+ghost use Prim.Native.Nat.{ℕ, _-_, _≤_, _<_};
+ghost use lib.ListN.{length, take, drop};
+ghost use Rattle.rules.specs.Words.{_<?_, row, any};
+ghost use Rattle.rules.specs.Sheet.{isRun, isLock};
+ghost use Rattle.rules.specs.Record.{recordAt};
+ghost use Rattle.rules.specs.Choice.{runnerByte, ceiling, goes, topJob, walk, runner};
+ghost use Rattle.table.specs.Table.{here, taskOf, sheetOf, Lies, Tabled};
+ghost use Rattle.choice.specs.Steps.{runHere, lockHere};
+ghost use Rattle.choice.specs.Holders.{Choosable, holders, semaphoreOf, entryAfter, afterSteps, afterJob};
+ghost use Rattle.choice.specs.Way.{nearer, nearest};
+use rules::Job;
+use rules::State;
+use table::Entry;
+use table::Here;
+use table::Table;
+use table::entry_at;
+use table::step_at;
+
+// The semaphore in a job's way: its ceiling and its holder, 255 where there is none.
+pub struct Way {
+    pub ceiling: u8,
+    pub holder: u8,
+}
+
+// The semaphore of a lock or an unlock; 16 where a step has none.
+fn semaphore_of(x: Here) -> usize
+    ensures { λ r. ⌜ r ≡ semaphoreOf x ⌝ }
+{
+    match x {
+        Here::Run(_) => 16,
+        Here::Lock(k) => k as usize,
+        Here::Unlock(k) => k as usize,
+        Here::End => 16,
+    }
+}
+
+// Its entry after the step, which is one of rank i.
+fn entry_after(i: u8, x: Here, h: u8) -> u8
+    ensures { λ r. ⌜ r ≡ entryAfter i x h ⌝ }
+{
+    match x {
+        Here::Run(_) => h,
+        Here::Lock(_) => if h == 255 { i } else { h },
+        Here::Unlock(_) => if h == i { 255 } else { h },
+        Here::End => h,
+    }
+}
+
+// The holders after the steps of rank i from one position to another.
+pub fn after_steps(s: &[u8], e: Entry, from: usize, to: usize, i: u8, hs: [u8; 16]) -> [u8; 16]
+    requires { ⌜ Lies (now s) e ⌝ }
+    ensures { λ r. ⌜ r ≡ afterSteps i (take (to - from) (drop from (taskOf (now (s .entry)) e .steps))) hs ⌝ }
+{
+    let mut out = hs;
+    let mut p = from;
+    while p < to {
+        let x = step_at(s, e, p);
+        let k = semaphore_of(x);
+        if k < 16 {
+            let h = out[k];
+            out[k] = entry_after(i, x, h);
+        }
+        p += 1;
+    }
+    out
+}
+
+// The holders, with what a job of rank i holds.
+fn after_job(s: &[u8], e: Entry, j: Job, i: u8, hs: [u8; 16]) -> [u8; 16]
+    requires { ⌜ Lies (now s) e ⌝ }
+    ensures { λ r. ⌜ r ≡ afterJob i (taskOf (now (s .entry)) e) j hs ⌝ }
+{
+    if j.pending {
+        let position = j.position as usize;
+        return after_steps(s, e, 0, position, i, hs);
+    }
+    hs
+}
+
+// The holder of each semaphore, 255 if none.
+pub fn holders_of(s: &[u8], table: Table, st: State) -> [u8; 16]
+    requires { ⌜ Tabled (now s) table ⌝ }
+    ensures { λ r. ⌜ r ≡ holders (sheetOf (now (s .entry)) table) (st .tasks) ⌝ }
+{
+    let n = table.n as usize;
+    let mut hs = [255u8; 16];
+    let mut i: usize = 0;
+    while i < n {
+        let e = table.entries[i];
+        let r = st.tasks[i];
+        let j = r.job;
+        let more = after_job(s, e, j, i as u8, hs);
+        hs = more;
+        i += 1;
+    }
+    hs
+}
+
+// What is in the way of job i: a semaphore with ceiling c and holder h, or what was so far.
+fn nearer_of(i: u8, c: u8, h: u8, w: Way) -> Way
+    ensures { λ r. ⌜ r ≡ nearer i c h w ⌝ }
+{
+    if h == 255 {
+        return w;
+    }
+    if h == i {
+        return w;
+    }
+    if w.ceiling <= c {
+        return w;
+    }
+    Way {
+        ceiling: c,
+        holder: h,
+    }
+}
+
+// What is in the way of job i, among the first m semaphores.
+fn way_of(i: u8, m: usize, cs: [u8; 16], hs: [u8; 16]) -> Way
+    requires { ⌜ m ≤ 16 ⌝ }
+    ensures { λ r. ⌜ r ≡ nearest i cs hs m ⌝ }
+{
+    let mut w = Way {
+        ceiling: 255,
+        holder: 255,
+    };
+    let mut k: usize = 0;
+    while k < m {
+        w = nearer_of(i, cs[k], hs[k], w);
+        k += 1;
+    }
+    w
+}
+
+// Rule 2: smaller than the ceiling, equal waits.
+fn is_free(i: u8, w: Way) -> bool
+    ensures { λ r. ⌜ r ≡ (i <? w .ceiling) ⌝ }
+{
+    i < w.ceiling
+}
+
+fn is_run(x: Here) -> bool
+    ensures { λ r. ⌜ r ≡ runHere x ⌝ }
+{
+    match x {
+        Here::Run(_) => true,
+        Here::Lock(_) => false,
+        Here::Unlock(_) => false,
+        Here::End => false,
+    }
+}
+
+fn is_lock(x: Here) -> bool
+    ensures { λ r. ⌜ r ≡ lockHere x ⌝ }
+{
+    match x {
+        Here::Run(_) => false,
+        Here::Lock(_) => true,
+        Here::Unlock(_) => false,
+        Here::End => false,
+    }
+}
+
+// Does a run lie before a position?
+fn run_before(s: &[u8], e: Entry, position: usize) -> bool
+    requires { ⌜ Lies (now s) e ⌝ }
+    ensures { λ r. ⌜ r ≡ any isRun (take position (taskOf (now (s .entry)) e .steps)) ⌝ }
+{
+    let mut p: usize = 0;
+    while p < position {
+        let x = step_at(s, e, p);
+        if is_run(x) {
+            return true;
+        }
+        p += 1;
+    }
+    false
+}
+
+// Does the program have any lock?
+fn any_lock(s: &[u8], e: Entry) -> bool
+    requires { ⌜ Lies (now s) e ⌝ }
+    ensures { λ r. ⌜ r ≡ any isLock (taskOf (now (s .entry)) e .steps) ⌝ }
+{
+    let count = e.count as usize;
+    let mut p: usize = 0;
+    while p < count {
+        let x = step_at(s, e, p);
+        if is_lock(x) {
+            return true;
+        }
+        p += 1;
+    }
+    false
+}
+
+// Rule 3 of a job that stands at a run of so many ticks and is not free of ceilings: it goes unless mode 1 holds it back,
+// fresh and with a lock in its program.
+fn goes_at_run(s: &[u8], mode: u8, e: Entry, j: Job, full: u16) -> bool
+    requires { ⌜ Lies (now s) e ⌝ }
+    requires { ⌜ Here.Run full ≡ here (drop (j .position) (taskOf (now s) e .steps)) ⌝ }
+    ensures { λ r. ⌜ r ≡ goes mode (taskOf (now (s .entry)) e) j false ⌝ }
+{
+    if mode != 1 {
+        return true;
+    }
+    if j.left != full {
+        return true;
+    }
+    let position = j.position as usize;
+    if run_before(s, e, position) {
+        return true;
+    }
+    let locks = any_lock(s, e);
+    !locks
+}
+
+// Rule 3 of a job that is not free of ceilings.
+fn goes_barred(s: &[u8], mode: u8, e: Entry, j: Job) -> bool
+    requires { ⌜ Lies (now s) e ⌝ }
+    ensures { λ r. ⌜ r ≡ goes mode (taskOf (now (s .entry)) e) j false ⌝ }
+{
+    let position = j.position as usize;
+    let x = step_at(s, e, position);
+    match x {
+        Here::Run(full) => goes_at_run(s, mode, e, j, full),
+        Here::Lock(_) => false,
+        Here::Unlock(_) => false,
+        Here::End => false,
+    }
+}
+
+// Rule 3.
+fn may_go(s: &[u8], mode: u8, e: Entry, j: Job, free: bool) -> bool
+    requires { ⌜ Lies (now s) e ⌝ }
+    ensures { λ r. ⌜ r ≡ goes mode (taskOf (now (s .entry)) e) j free ⌝ }
+{
+    if free {
+        return true;
+    }
+    goes_barred(s, mode, e, j)
+}
+
+// Rule 4: the pending job of smallest rank, 255 if none is.
+fn top_job(n: usize, st: State) -> u8
+    requires { ⌜ n ≤ 16 ⌝ }
+    requires { ⌜ ((i : ℕ) → n ≤ i → recordAt (st .tasks) i .job .pending ≡ false) ⌝ }
+    ensures { λ r. ⌜ r ≡ topJob (st .tasks) ⌝ }
+{
+    let mut i: usize = 0;
+    while i < n {
+        let r = st.tasks[i];
+        let j = r.job;
+        if j.pending {
+            return i as u8;
+        }
+        i += 1;
+    }
+    255
+}
+
+// The first candidate that may go, from one on; 254 where a candidate comes round again.
+fn walked(s: &[u8], table: Table, cs: [u8; 16], hs: [u8; 16], st: State, from: u8) -> u8
+    requires { ⌜ Tabled (now s) table ⌝ }
+    requires { ⌜ cs ≡ row 16 (ceiling (sheetOf (now s) table)) ⌝ }
+    requires { ⌜ hs ≡ holders (sheetOf (now s) table) (st .tasks) ⌝ }
+    requires { ⌜ Choosable (sheetOf (now s) table) (st .tasks) ⌝ }
+    requires { ⌜ from < 16 ⌝ }
+    ensures { λ r. ⌜ r ≡ runnerByte (walk (sheetOf (now (s .entry)) table) (st .tasks) 16 [] from) ⌝ }
+{
+    let m = table.semaphores as usize;
+    let mode = table.mode;
+    let mut c = from;
+    let mut seen: usize = 0;
+    while seen < 16 {
+        let i = c as usize;
+        let e = entry_at(table, i);
+        let r = st.tasks[i];
+        let j = r.job;
+        let w = way_of(c, m, cs, hs);
+        let free = is_free(c, w);
+        if may_go(s, mode, e, j, free) {
+            return c;
+        }
+        c = w.holder;
+        seen += 1;
+    }
+    254
+}
+
+// The runner of a tick, from the state after its releases.
+pub fn runner_of(s: &[u8], table: Table, cs: [u8; 16], st: State) -> u8
+    requires { ⌜ Tabled (now s) table ⌝ }
+    requires { ⌜ cs ≡ row 16 (ceiling (sheetOf (now s) table)) ⌝ }
+    requires { ⌜ Choosable (sheetOf (now s) table) (st .tasks) ⌝ }
+    ensures { λ r. ⌜ r ≡ runnerByte (runner (sheetOf (now (s .entry)) table) (st .tasks)) ⌝ }
+{
+    let n = table.n as usize;
+    let top = top_job(n, st);
+    if top == 255 {
+        return 255;
+    }
+    let i = top as usize;
+    let e = entry_at(table, i);
+    let r = st.tasks[i];
+    let j = r.job;
+    if goes_barred(s, table.mode, e, j) {
+        return top;
+    }
+    let hs = holders_of(s, table, st);
+    walked(s, table, cs, hs, st, top)
+}

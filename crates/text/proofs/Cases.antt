@@ -1,0 +1,30 @@
+-- What is printed for the cases, by computation.
+use mathlib.Core.Path.{refl}
+use mathlib.Core.List.{flatMap}
+use Rattle.rules.proofs.Open.{rules}
+use Rattle.text.specs.Text.{digits, decimal, field, headLine, jobs, times, signedDecimal, analysis, taskLine, taskLines, tickWord, traceLine, report, refusalLine, printedRun, printed}
+use Rattle.text.specs.Laws.{PrintedA, PrintedF, PrintedB, PrintedNothing, PrintedCut}
+
+unfoldable form : Unit {0}
+unfolding rules flatMap digits decimal field headLine jobs times signedDecimal analysis taskLine taskLines tickWord traceLine report refusalLine printedRun printed
+form = tt
+
+pub printed-A : PrintedA
+unfolding form
+printed-A = refl
+
+pub printed-F : PrintedF
+unfolding form
+printed-F = refl
+
+pub printed-B : PrintedB
+unfolding form
+printed-B = refl
+
+pub printed-nothing : PrintedNothing
+unfolding form
+printed-nothing = refl
+
+pub printed-cut : PrintedCut
+unfolding form
+printed-cut = refl

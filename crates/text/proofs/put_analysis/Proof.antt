@@ -1,0 +1,45 @@
+use borrow.Author.Needs.{needs}
+use native.Mathlib.Omega.{arith}
+use Rattle.text.specs.Text.{analysis}
+use Rattle.text.proofs.Put.{put-more}
+use Rattle.text.proofs.put_analysis.Statement.{statement}
+use Rattle.text.proofs.put_analysis.Tie as tie
+use Rattle.text.proofs.put_analysis.Reads as reads
+use Rattle.text.proofs.put_analysis.Lts as lts
+use Rattle.text.proofs.put_field.Reads as put-field-reads
+use Rattle.text.proofs.put_laxity.Reads as put-laxity-reads
+use Rattle.text.proofs.put_text.Reads as put-text-reads
+
+slice-aggregate-put-field : tie.Need-slice-aggregate-put-field
+slice-aggregate-put-field c = search needs
+
+put-field-requires : tie.Need-put-field-requires
+put-field-requires c κs = search needs
+
+slice-aggregate-put-text : tie.Need-slice-aggregate-put-text
+slice-aggregate-put-text c = search needs
+
+put-text-requires : tie.Need-put-text-requires
+put-text-requires c κs = search needs
+
+put-laxity-requires : tie.Need-put-laxity-requires
+put-laxity-requires c κs = search needs
+
+same-length : tie.Need-same-length
+same-length c = search needs
+
+returns : tie.Need-returns
+unfolding analysis
+returns c = (search put-more, omega arith)
+
+pub put-analysis-spec : {M : Type 1} → statement M
+put-analysis-spec =
+    tie.close
+    (tie.spec
+    slice-aggregate-put-field
+    put-field-requires
+    slice-aggregate-put-text
+    put-text-requires
+    put-laxity-requires
+    same-length
+    returns)

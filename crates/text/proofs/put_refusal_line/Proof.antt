@@ -1,0 +1,68 @@
+use borrow.Author.Needs.{needs}
+use Rattle.text.specs.Text.{refusalLine}
+use Rattle.text.proofs.Put.{put-more}
+use Rattle.text.proofs.put_refusal_line.Statement.{statement}
+use Rattle.text.proofs.put_refusal_line.Tie as tie
+use Rattle.text.proofs.put_refusal_line.Reads as reads
+use Rattle.text.proofs.put_refusal_line.Lts as lts
+use Rattle.text.proofs.put_byte.Reads as put-byte-reads
+use Rattle.text.proofs.put_field.Reads as put-field-reads
+
+slice-aggregate-put-field : tie.Need-slice-aggregate-put-field
+slice-aggregate-put-field c = search needs
+
+cast-put-field : tie.Need-cast-put-field
+cast-put-field c = search needs
+
+put-field-requires : tie.Need-put-field-requires
+put-field-requires c κs = search needs
+
+slice-aggregate-put-field-2 : tie.Need-slice-aggregate-put-field-2
+slice-aggregate-put-field-2 c = search needs
+
+cast-put-field-2 : tie.Need-cast-put-field-2
+cast-put-field-2 c = search needs
+
+put-field-requires-2 : tie.Need-put-field-requires-2
+put-field-requires-2 c κs = search needs
+
+slice-aggregate-put-field-3 : tie.Need-slice-aggregate-put-field-3
+slice-aggregate-put-field-3 c = search needs
+
+cast-put-field-3 : tie.Need-cast-put-field-3
+cast-put-field-3 c = search needs
+
+put-field-requires-3 : tie.Need-put-field-requires-3
+put-field-requires-3 c κs = search needs
+
+put-byte-requires : tie.Need-put-byte-requires
+put-byte-requires c κs = search needs
+
+same-length : tie.Need-same-length
+same-length c = search needs
+
+returns : tie.Need-returns
+unfolding refusalLine
+returns c =
+    let line = c .before .before in
+    let stepped = line .before .before .before .before in
+    let ranked = stepped .before .before .before .before .before .before in
+    let numbered = ranked .before .before .before .before .before .before in
+    put-more (put-more (put-more (numbered .put-field .ensures .0) (ranked .put-field2 .ensures .0)) (stepped .put-field3 .ensures .0)) (line .put-byte .ensures)
+
+pub put-refusal-line-spec : {M : Type 1} → statement M
+put-refusal-line-spec =
+    tie.close
+    (tie.spec
+    slice-aggregate-put-field
+    cast-put-field
+    put-field-requires
+    slice-aggregate-put-field-2
+    cast-put-field-2
+    put-field-requires-2
+    slice-aggregate-put-field-3
+    cast-put-field-3
+    put-field-requires-3
+    put-byte-requires
+    same-length
+    returns)

@@ -1,0 +1,55 @@
+use borrow.Author.Needs.{needs}
+use native.Mathlib.Omega.{arith}
+use Rattle.text.proofs.Decimal.{decimal-few}
+use Rattle.text.proofs.Put.{tick-idle, tick-stuck, tick-rank}
+use Rattle.text.proofs.put_runner.Statement.{statement}
+use Rattle.text.proofs.put_runner.Tie as tie
+use Rattle.text.proofs.put_runner.Reads as reads
+use Rattle.text.proofs.put_runner.Lts as lts
+use Rattle.text.proofs.put_byte.Reads as put-byte-reads
+use Rattle.text.proofs.put_number.Reads as put-number-reads
+
+put-byte-requires : tie.Need-put-byte-requires
+put-byte-requires c κs = search needs
+
+put-byte-requires-2 : tie.Need-put-byte-requires-2
+put-byte-requires-2 c κs = search needs
+
+same-length : tie.Need-same-length
+same-length c = search needs
+
+returns : tie.Need-returns
+returns c = (search tick-idle, omega arith)
+
+put-byte-requires-3 : tie.Need-put-byte-requires-3
+put-byte-requires-3 c κs = search needs
+
+same-length-2 : tie.Need-same-length-2
+same-length-2 c = search needs
+
+returns-2 : tie.Need-returns-2
+returns-2 c = (search tick-stuck, omega arith)
+
+put-number-requires : tie.Need-put-number-requires
+put-number-requires c κs = search needs
+
+same-length-3 : tie.Need-same-length-3
+same-length-3 c = search needs
+
+returns-3 : tie.Need-returns-3
+returns-3 c = (search tick-rank, omega (arith, decimal-few 2 (c .before .before .before .before .before .before .before .before .before .before .before .args .x) (omega arith)))
+
+pub put-runner-spec : {M : Type 1} → statement M
+put-runner-spec =
+    tie.close
+    (tie.spec
+    put-byte-requires
+    put-byte-requires-2
+    same-length
+    returns
+    put-byte-requires-3
+    same-length-2
+    returns-2
+    put-number-requires
+    same-length-3
+    returns-3)

@@ -1,0 +1,55 @@
+use borrow.Author.Needs.{needs}
+use native.Mathlib.Omega.{arith}
+use Rattle.text.specs.Text.{taskLine}
+use Rattle.text.proofs.Put.{put-more}
+use Rattle.text.proofs.put_task_line.Statement.{statement}
+use Rattle.text.proofs.put_task_line.Tie as tie
+use Rattle.text.proofs.put_task_line.Reads as reads
+use Rattle.text.proofs.put_task_line.Lts as lts
+use Rattle.text.proofs.put_analysis.Reads as put-analysis-reads
+use Rattle.text.proofs.put_byte.Reads as put-byte-reads
+use Rattle.text.proofs.put_jobs.Reads as put-jobs-reads
+use Rattle.text.proofs.put_number.Reads as put-number-reads
+use Rattle.text.proofs.put_times.Reads as put-times-reads
+
+put-number-requires : tie.Need-put-number-requires
+put-number-requires c κs = search needs
+
+put-jobs-requires : tie.Need-put-jobs-requires
+put-jobs-requires c κs = search needs
+
+put-times-requires : tie.Need-put-times-requires
+put-times-requires c κs = search needs
+
+put-analysis-requires : tie.Need-put-analysis-requires
+put-analysis-requires c κs = search needs
+
+put-byte-requires : tie.Need-put-byte-requires
+put-byte-requires c κs = search needs
+
+same-length : tie.Need-same-length
+same-length c = search needs
+
+returns : tie.Need-returns
+unfolding taskLine
+returns c =
+    let line = c .before .before in
+    let analysed = line .before .before .before .before in
+    let timed = analysed .before .before .before .before in
+    let counted = timed .before .before .before .before in
+    let ranked = counted .before .before .before .before in (
+      put-more (put-more (put-more (put-more (ranked .put-number .ensures .0) (counted .put-jobs .ensures .0)) (timed .put-times .ensures .0)) (analysed .put-analysis .ensures .0)) (line .put-byte .ensures),
+      omega arith,
+    )
+
+pub put-task-line-spec : {M : Type 1} → statement M
+put-task-line-spec =
+    tie.close
+    (tie.spec
+    put-number-requires
+    put-jobs-requires
+    put-times-requires
+    put-analysis-requires
+    put-byte-requires
+    same-length
+    returns)

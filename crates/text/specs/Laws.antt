@@ -1,0 +1,55 @@
+-- WHAT FOLLOWS: laws that make the printed form trustworthy. Each is proved in proofs/.
+use Prim.Native.Nat.{ℕ, _+_, _-_, _*_, _≤_, _<_}
+use Prim.Native.Char.{code}
+use mathlib.Core.Path.{_≡_}
+use mathlib.Core.List.{List, [], _∷_, _++_}
+use lib.ListN.{getD, take}
+use Rattle.rules.specs.Laws.{All}
+use Rattle.rules.specs.Cases.{A, B, F}
+use Rattle.text.specs.Text.{ascii, decimal, printed}
+
+-- The number that digits give, read from the left, behind one that was read before.
+unfoldable pub value : (before : ℕ) → List ℕ → ℕ
+value before [] = before
+value before (d ∷ ds) = value (before * 10 + (d - code "0")) ds
+
+-- A number in decimal: digits that read back give it, with no needless zero in front.
+pub record InDecimal (n : ℕ) (text : List ℕ) : Type 0 where
+  pub digits : All (λ d. (code "0" ≤ d) × (d ≤ code "9")) text
+  pub readsBack : value 0 text ≡ n
+  pub leading : 1 ≤ n → code "1" ≤ getD text 0 0
+
+abbrev pub DecimalIsDecimal : Type 0
+DecimalIsDecimal = (n : ℕ) → InDecimal n (decimal n)
+
+-- The numbers of document 01: A with horizon 10, and F, which is A with horizon 0.
+abbrev pub PrintedA : Type 0
+PrintedA = printed (0 ∷ 10 ∷ A .sheet) ≡
+    ascii "ticks 10 switches 6\n"
+    ++ ascii "0 releases 1 done 1 missed 0 ran 2 blocked 2 worst 4 bound 3 laxity 5\n"
+    ++ ascii "1 releases 1 done 1 missed 0 ran 5 blocked 0 worst 7 bound 0 laxity 11\n"
+    ++ ascii "trace 1 1 0 1 1 0 1 - - -\n"
+
+abbrev pub PrintedF : Type 0
+PrintedF = printed (0 ∷ 0 ∷ F .sheet) ≡
+    ascii "ticks 0 switches 0\n"
+    ++ ascii "0 releases 0 done 0 missed 0 ran 0 blocked 0 worst 0 bound 3 laxity 5\n"
+    ++ ascii "1 releases 0 done 0 missed 0 ran 0 blocked 0 worst 0 bound 0 laxity 11\n"
+    ++ ascii "trace\n"
+
+-- B, of which document 01 gives the bounds and laxities, one of them negative.
+abbrev pub PrintedB : Type 0
+PrintedB = printed (0 ∷ 0 ∷ B .sheet) ≡
+    ascii "ticks 0 switches 0\n"
+    ++ ascii "0 releases 0 done 0 missed 0 ran 0 blocked 0 worst 0 bound 0 laxity 6\n"
+    ++ ascii "1 releases 0 done 0 missed 0 ran 0 blocked 0 worst 0 bound 4 laxity -1\n"
+    ++ ascii "2 releases 0 done 0 missed 0 ran 0 blocked 0 worst 0 bound 4 laxity 2\n"
+    ++ ascii "3 releases 0 done 0 missed 0 ran 0 blocked 0 worst 0 bound 0 laxity 8\n"
+    ++ ascii "trace\n"
+
+-- Input under two bytes is refusal 1; a sheet whose last byte is cut off is refusal 7, for the last task.
+abbrev pub PrintedNothing : Type 0
+PrintedNothing = printed [] ≡ ascii "refused 1 task 0 step 0\n"
+
+abbrev pub PrintedCut : Type 0
+PrintedCut = printed (0 ∷ 10 ∷ take 44 (A .sheet)) ≡ ascii "refused 7 task 1 step 0\n"

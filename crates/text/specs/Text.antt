@@ -1,0 +1,94 @@
+-- THE PRINTED FORM: what the printing program writes for the bytes that it reads.
+use Prim.Native.Nat.{ℕ, zero, suc, _+_, _/_, _%_}
+use Prim.Native.Char.{Char, code}
+use Prim.Native.String.{String, [] as none, _∷_ as _then_}
+use mathlib.Core.List.{List, [], _∷_, _++_, flatMap}
+use lib.ListN.{length, take, drop, replicate}
+use Rattle.rules.specs.Words.{if_then_else_, _<?_, _=?_, row}
+use Rattle.rules.specs.Sheet.{Sheet}
+use Rattle.rules.specs.Reading.{refusal, word}
+use Rattle.rules.specs.Record.{start, recordAt}
+use Rattle.rules.specs.Run.{after, trace}
+use Rattle.rules.specs.Bounds.{bound, laxity}
+use Rattle.rules.specs.Answers.{why, made, signed, readRun}
+use Rattle.rules.specs.declared.Counts.{Counts}
+use Rattle.rules.specs.declared.State.{State}
+use Rattle.rules.specs.declared.Refusal.{Refusal}
+use Rattle.rules.specs.declared.Laxity.{Laxity}
+
+-- A quoted text as its bytes.
+abbrev pub ascii : String → List ℕ
+ascii none = []
+ascii (x then rest) = code x ∷ ascii rest
+
+-- All numbers are decimal: the digits of a number, at most so many, the last of them its remainder by ten.
+abbrev pub digit : ℕ → ℕ
+digit n = code "0" + n % 10
+
+unfoldable pub digits : (most : ℕ) → ℕ → List ℕ
+digits zero n = []
+digits (suc most) n =
+    let before = digits most (n / 10) in
+    (if n <? 10 then [] else before) ++ (digit n ∷ [])
+
+-- A number n has at most n + 1 of them.
+unfoldable pub decimal : ℕ → List ℕ
+decimal n = digits (suc n) n
+
+-- A word and the number behind it.
+unfoldable pub field : List ℕ → ℕ → List ℕ
+field name n = name ++ decimal n
+
+unfoldable pub headLine : (ticks switches : ℕ) → List ℕ
+headLine ticks switches = field (ascii "ticks ") ticks ++ field (ascii " switches ") switches ++ ascii "\n"
+
+-- How many jobs were released and done, and how many releases missed.
+unfoldable pub jobs : Counts → List ℕ
+jobs c = field (ascii " releases ") (c .releases) ++ field (ascii " done ") (c .completions) ++ field (ascii " missed ") (c .misses)
+
+-- The ticks run, the ticks blocked and the worst response.
+unfoldable pub times : Counts → List ℕ
+times c = field (ascii " ran ") (c .ran) ++ field (ascii " blocked ") (c .blocked) ++ field (ascii " worst ") (c .worst)
+
+-- A laxity may be negative.
+unfoldable pub signedDecimal : Laxity → List ℕ
+signedDecimal x = (if x .below then ascii "-" else []) ++ decimal (x .size)
+
+unfoldable pub analysis : (bound : ℕ) (laxity : Laxity) → List ℕ
+analysis bound laxity = field (ascii " bound ") bound ++ ascii " laxity " ++ signedDecimal laxity
+
+-- One line per rank, first field the rank.
+unfoldable pub taskLine : (i : ℕ) → Counts → (bound : ℕ) (laxity : Laxity) → List ℕ
+taskLine i c bound laxity = decimal i ++ jobs c ++ times c ++ analysis bound laxity ++ ascii "\n"
+
+unfoldable pub taskLines : (n : ℕ) → State → (bounds : ℕ → ℕ) (laxities : ℕ → Laxity) → List ℕ
+taskLines n st bounds laxities = flatMap (λ i. taskLine i (recordAt (st .tasks) i .counts) (bounds i) (laxities i)) (row n λ i. i)
+
+-- The trace line has one word for each tick: the runner's rank, "-" for idle, "!" for 254.
+unfoldable pub tickWord : (x : ℕ) → List ℕ
+tickWord x = ascii " " ++ (if x =? 255 then ascii "-" else if x =? 254 then ascii "!" else decimal x)
+
+unfoldable pub traceLine : (runners : List ℕ) → List ℕ
+traceLine runners = ascii "trace" ++ flatMap tickWord runners ++ ascii "\n"
+
+-- An accepted run of n tasks prints these, whole.
+unfoldable pub report : (n : ℕ) → State → (bounds : ℕ → ℕ) (laxities : ℕ → Laxity) (runners : List ℕ) → List ℕ
+report n st bounds laxities runners = headLine (st .t) (st .switches) ++ taskLines n st bounds laxities ++ traceLine runners
+
+-- A refusal prints this alone.
+unfoldable pub refusalLine : Refusal → List ℕ
+refusalLine x = field (ascii "refused ") (x .number) ++ field (ascii " task ") (x .rank) ++ field (ascii " step ") (x .step) ++ ascii "\n"
+
+-- What a horizon and a sheet print. The trace has the horizon's length, so that 15 is never given.
+unfoldable pub printedRun : (horizon : ℕ) (bytes : List ℕ) → List ℕ
+printedRun h bytes =
+    let r = readRun bytes h (replicate h 0) in
+    made r (refusalLine (why r)) λ sheet.
+    report (length (sheet .tasks)) (after h sheet start) (bound sheet) (λ i. signed (laxity sheet i)) (trace h sheet start)
+
+-- WHAT IS PRINTED for the bytes on standard input: a 16-bit big-endian horizon and then a sheet; at most 3,163 bytes are
+-- taken. Input under two bytes is refusal 1.
+unfoldable pub printed : (input : List ℕ) → List ℕ
+printed input =
+    let taken = take 3163 input in
+    if length taken <? 2 then refusalLine (refusal 1 0 0) else printedRun (word taken 0) (drop 2 taken)

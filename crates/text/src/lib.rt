@@ -1,0 +1,221 @@
+// What the printing program prints, written into a buffer that the caller lends. Each function puts a text at a cursor and
+// answers the cursor behind it; what the texts are stands in specs/Text.antt.
+use rules::Counts;
+use rules::Laxity;
+use rules::Refusal;
+use rules::State;
+ghost use Prim.Native.Nat.{_+_, _*_, _≤_, _<_};
+ghost use mathlib.Core.Path.{_≡_};
+ghost use mathlib.Core.List.{[], _∷_, _++_};
+ghost use lib.ListN.{length, take, getD};
+ghost use Rattle.text.specs.Buffer.{Put, boundAt, laxityAt};
+ghost use Rattle.text.specs.Text.{digit as Text·digit};
+ghost use Rattle.text.specs.Text.{ascii, decimal, field, headLine, jobs, times, signedDecimal, analysis, taskLine, taskLines, traceLine, report, refusalLine, tickWord};
+
+fn put_byte(out: &mut [u8], at: usize, b: u8) -> usize
+    requires { ⌜ at < length (now out) ⌝ }
+    ensures { λ r. ⌜ Put (now (out .entry)) at (b ∷ []) (now (out .exit)) r ⌝ }
+{
+    out[at] = b;
+    at + 1
+}
+
+fn put_text(out: &mut [u8], at: usize, text: &[u8]) -> usize
+    requires { ⌜ at + length (now text) ≤ length (now out) ⌝ }
+    ensures { λ r. ⌜ Put (now (out .entry)) at (now (text .entry)) (now (out .exit)) r ⌝ }
+{
+    let mut next = at;
+    let mut i = 0;
+    while i < text.len() {
+        next = put_byte(out, next, text[i]);
+        i += 1;
+    }
+    next
+}
+
+fn digit(n: u32) -> u8
+    ensures { λ r. ⌜ r ≡ Text·digit n ⌝ }
+{
+    b'0' + (n % 10) as u8
+}
+
+// A number of 32 bits has at most ten digits.
+fn put_number(out: &mut [u8], at: usize, n: u32) -> usize
+    requires { ⌜ at + 10 ≤ length (now out) ⌝ }
+    ensures { λ r. ⌜ Put (now (out .entry)) at (decimal n) (now (out .exit)) r ⌝ }
+    ensures { λ r. ⌜ r ≤ at + 10 ⌝ }
+{
+    if n < 10 {
+        return put_byte(out, at, digit(n));
+    }
+    let next = put_number(out, at, n / 10);
+    put_byte(out, next, digit(n))
+}
+
+// A word and the number behind it.
+fn put_field(out: &mut [u8], at: usize, name: &[u8], n: u16) -> usize
+    requires { ⌜ at + (length (now name) + 10) ≤ length (now out) ⌝ }
+    ensures { λ r. ⌜ Put (now (out .entry)) at (field (now (name .entry)) n) (now (out .exit)) r ⌝ }
+    ensures { λ r. ⌜ r ≤ at + (length (now (name .entry)) + 10) ⌝ }
+{
+    let next = put_text(out, at, name);
+    put_number(out, next, n as u32)
+}
+
+fn put_head_line(out: &mut [u8], at: usize, ticks: u16, switches: u16) -> usize
+    requires { ⌜ at + 37 ≤ length (now out) ⌝ }
+    ensures { λ r. ⌜ Put (now (out .entry)) at (headLine ticks switches) (now (out .exit)) r ⌝ }
+    ensures { λ r. ⌜ r ≤ at + 37 ⌝ }
+{
+    let next = put_field(out, at, b"ticks ", ticks);
+    let next = put_field(out, next, b" switches ", switches);
+    put_byte(out, next, b'\n')
+}
+
+fn put_jobs(out: &mut [u8], at: usize, c: Counts) -> usize
+    requires { ⌜ at + 54 ≤ length (now out) ⌝ }
+    ensures { λ r. ⌜ Put (now (out .entry)) at (jobs c) (now (out .exit)) r ⌝ }
+    ensures { λ r. ⌜ r ≤ at + 54 ⌝ }
+{
+    let next = put_field(out, at, b" releases ", c.releases);
+    let next = put_field(out, next, b" done ", c.completions);
+    put_field(out, next, b" missed ", c.misses)
+}
+
+fn put_times(out: &mut [u8], at: usize, c: Counts) -> usize
+    requires { ⌜ at + 51 ≤ length (now out) ⌝ }
+    ensures { λ r. ⌜ Put (now (out .entry)) at (times c) (now (out .exit)) r ⌝ }
+    ensures { λ r. ⌜ r ≤ at + 51 ⌝ }
+{
+    let next = put_field(out, at, b" ran ", c.ran);
+    let next = put_field(out, next, b" blocked ", c.blocked);
+    put_field(out, next, b" worst ", c.worst)
+}
+
+fn put_laxity(out: &mut [u8], at: usize, x: Laxity) -> usize
+    requires { ⌜ at + 11 ≤ length (now out) ⌝ }
+    ensures { λ r. ⌜ Put (now (out .entry)) at (signedDecimal x) (now (out .exit)) r ⌝ }
+    ensures { λ r. ⌜ r ≤ at + 11 ⌝ }
+{
+    if x.below {
+        let next = put_byte(out, at, b'-');
+        return put_number(out, next, x.size);
+    }
+    put_number(out, at, x.size)
+}
+
+fn put_analysis(out: &mut [u8], at: usize, bound: u16, laxity: Laxity) -> usize
+    requires { ⌜ at + 36 ≤ length (now out) ⌝ }
+    ensures { λ r. ⌜ Put (now (out .entry)) at (analysis bound laxity) (now (out .exit)) r ⌝ }
+    ensures { λ r. ⌜ r ≤ at + 36 ⌝ }
+{
+    let next = put_field(out, at, b" bound ", bound);
+    let next = put_text(out, next, b" laxity ");
+    put_laxity(out, next, laxity)
+}
+
+fn put_task_line(out: &mut [u8], at: usize, i: u32, c: Counts, bound: u16, laxity: Laxity) -> usize
+    requires { ⌜ at + 152 ≤ length (now out) ⌝ }
+    ensures { λ r. ⌜ Put (now (out .entry)) at (taskLine i c bound laxity) (now (out .exit)) r ⌝ }
+    ensures { λ r. ⌜ r ≤ at + 152 ⌝ }
+{
+    let next = put_number(out, at, i);
+    let next = put_jobs(out, next, c);
+    let next = put_times(out, next, c);
+    let next = put_analysis(out, next, bound, laxity);
+    put_byte(out, next, b'\n')
+}
+
+// A line for each of the first n ranks.
+fn put_task_lines(
+    out: &mut [u8],
+    at: usize,
+    n: usize,
+    st: State,
+    bounds: [u16; 16],
+    laxities: [Laxity; 16],
+) -> usize
+    requires { ⌜ n ≤ 16 ⌝ }
+    requires { ⌜ at + 152 * 16 ≤ length (now out) ⌝ }
+    ensures { λ r. ⌜ Put (now (out .entry)) at (taskLines n st (boundAt bounds) (laxityAt laxities)) (now (out .exit)) r ⌝ }
+    ensures { λ r. ⌜ r ≤ at + 152 * 16 ⌝ }
+{
+    let mut next = at;
+    let mut i = 0;
+    while i < n {
+        let task = st.tasks[i];
+        let counts = task.counts;
+        let laxity = laxities[i];
+        let more = put_task_line(out, next, i as u32, counts, bounds[i], laxity);
+        next = more;
+        i += 1;
+    }
+    next
+}
+
+// One word of the trace line, with the space before it.
+fn put_runner(out: &mut [u8], at: usize, x: u8) -> usize
+    requires { ⌜ at + 11 ≤ length (now out) ⌝ }
+    ensures { λ r. ⌜ Put (now (out .entry)) at (tickWord x) (now (out .exit)) r ⌝ }
+    ensures { λ r. ⌜ r ≤ at + 4 ⌝ }
+{
+    let next = put_byte(out, at, b' ');
+    if x == 255 {
+        return put_byte(out, next, b'-');
+    }
+    if x == 254 {
+        return put_byte(out, next, b'!');
+    }
+    put_number(out, next, x as u32)
+}
+
+// The first h bytes of a trace. A word has at most four bytes.
+fn put_trace_line(out: &mut [u8], at: usize, trace: &[u8], h: usize) -> usize
+    requires { ⌜ h ≤ length (now trace) ⌝ }
+    requires { ⌜ at + (4 * h + 32) ≤ length (now out) ⌝ }
+    ensures { λ r. ⌜ Put (now (out .entry)) at (traceLine (take h (now (trace .entry)))) (now (out .exit)) r ⌝ }
+    ensures { λ r. ⌜ r ≤ at + (4 * h + 32) ⌝ }
+{
+    let mut next = put_text(out, at, b"trace");
+    let mut i = 0;
+    while i < h {
+        let more = put_runner(out, next, trace[i]);
+        next = more;
+        i += 1;
+    }
+    put_byte(out, next, b'\n')
+}
+
+// All that an accepted run of n tasks prints: its record, its bounds and laxities, and the first h bytes of its trace.
+pub fn put_report(
+    out: &mut [u8],
+    at: usize,
+    n: usize,
+    st: State,
+    bounds: [u16; 16],
+    laxities: [Laxity; 16],
+    trace: &[u8],
+    h: usize,
+) -> usize
+    requires { ⌜ n ≤ 16 ⌝ }
+    requires { ⌜ h ≤ length (now trace) ⌝ }
+    requires { ⌜ at + (4 * h + 4096) ≤ length (now out) ⌝ }
+    ensures { λ r. ⌜ Put (now (out .entry)) at (report n st (boundAt bounds) (laxityAt laxities) (take h (now (trace .entry)))) (now (out .exit)) r ⌝ }
+{
+    let t = st.t;
+    let switches = st.switches;
+    let next = put_head_line(out, at, t, switches);
+    let next = put_task_lines(out, next, n, st, bounds, laxities);
+    put_trace_line(out, next, trace, h)
+}
+
+// All that a refusal prints.
+pub fn put_refusal_line(out: &mut [u8], at: usize, x: Refusal) -> usize
+    requires { ⌜ at + 64 ≤ length (now out) ⌝ }
+    ensures { λ r. ⌜ Put (now (out .entry)) at (refusalLine x) (now (out .exit)) r ⌝ }
+{
+    let next = put_field(out, at, b"refused ", x.number as u16);
+    let next = put_field(out, next, b" task ", x.rank as u16);
+    let next = put_field(out, next, b" step ", x.step as u16);
+    put_byte(out, next, b'\n')
+}
