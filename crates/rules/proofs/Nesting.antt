@@ -30,10 +30,10 @@ held-snoc before (lock s ∷ steps) more = held-snoc (s ∷ before) steps more
 held-snoc before (unlock s ∷ steps) more = held-snoc (without s before) steps more
 
 -- was the last step a lock
-pub afterLock : List Step → Bool
+unfoldable pub afterLock : List Step → Bool
 afterLock before = any isLock (take 1 (reverse before))
 
-after-snoc : (before : List Step) (x : Step) → afterLock (before ++ (x ∷ [])) ≡ isLock x
+pub after-snoc : (before : List Step) (x : Step) → afterLock (before ++ (x ∷ [])) ≡ isLock x
 unfolding afterLock any
 after-snoc before x = rw (reverse-append before (x ∷ [])) (or-false (isLock x))
 
@@ -48,7 +48,7 @@ placed-nests before (unlock s ∷ steps) = ap (λ (x : Bool). not (misplaced bef
     (placed-nests (before ++ (unlock s ∷ [])) steps ∙ ap₂ (λ (h : List ℕ) (b : Bool). nests h b steps) (held-snoc [] before (unlock s ∷ [])) (after-snoc before (unlock s)))
 
 -- semaphores, no two of them the same: to take away the newest leaves the others
-abbrev Distinct : List ℕ → Type 0
+abbrev pub Distinct : List ℕ → Type 0
 Distinct [] = Unit {0}
 Distinct (s ∷ h) = (among s h ≡ false) × Distinct h
 
@@ -62,7 +62,7 @@ without-absent s (u ∷ h) e = go (u =? s) refl (without-absent s h)
     go true v k = true-false (among s (u ∷ h)) (rw v refl) e
     go false v k = ap (λ (x : List ℕ). u ∷ x) (k (let z : (false || among s h) ≡ false = sym (ap (λ (b : Bool). b || among s h) v) ∙ e in z))
 
-without-newest : (s : ℕ) (h : List ℕ) → among s h ≡ false → without s (s ∷ h) ≡ h
+pub without-newest : (s : ℕ) (h : List ℕ) → among s h ≡ false → without s (s ∷ h) ≡ h
 unfolding without
 without-newest s h e = rw (eq-eqb s s refl) (without-absent s h e)
 
@@ -134,12 +134,12 @@ rest-section s (u ∷ h) b inside rest new few some β r = (
   r .5,
 )
 
-or-too : (a b : Bool) → (a || b) ≡ false → b ≡ false
+pub or-too : (a b : Bool) → (a || b) ≡ false → b ≡ false
 or-too true b e = true-false true refl e
 or-too false b e = e
 
 -- the newest is the first
-newest : (s u : ℕ) → among s (u ∷ []) ≡ true → u ≡ s
+pub newest : (s u : ℕ) → among s (u ∷ []) ≡ true → u ≡ s
 unfolding among any
 newest s u e = ⊎-elim (λ v. eqb-true u s v) (λ v. true-false false v refl) (or-cases (u =? s) false e)
 

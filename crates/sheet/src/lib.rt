@@ -1,0 +1,388 @@
+// The reader of task sheets: bytes give a table or a refusal. And the ceilings of a sheet's semaphores.
+// Each reading step answers a value with the next cursor, or a refusal: specs/Reader.antt says what the answers mean.
+ghost use mathlib.Core.Path.{_≡_};
+ghost use mathlib.Core.Bool.{false};
+ghost use Prim.Native.Nat.{_+_, _≤_};
+ghost use lib.ListN.{length, drop};
+ghost use Rattle.rules.specs.Words.{within, among};
+ghost use Rattle.rules.specs.Reading.{read, refusal, stepOf, known};
+ghost use Rattle.table.specs.Table.{Lies};
+ghost use Rattle.sheet.specs.Nesting.{opened, misplacedIn, nestBehind};
+ghost use Rattle.sheet.specs.Reader.{marked, readHead, headIn, headRefusal, readStep, stepIn, stepRefusal, readTaskHead, readStepsOf, entryIn, taskRefusal, TaskFrom, turnedAway, ParsedFrom};
+use rules::Refusal;
+use table::Entry;
+use table::Table;
+
+// The head of a sheet, and where its tasks begin.
+pub struct Head {
+    pub n: u8,
+    pub semaphores: u8,
+    pub mode: u8,
+    pub next: usize,
+}
+
+pub enum HeadRead {
+    Begun(Head),
+    NoHead(Refusal),
+}
+
+// A task's entry, and the place behind what was read.
+pub enum TaskRead {
+    Opened(Entry, usize),
+    NoTask(Refusal),
+}
+
+// A step's kind and value.
+pub enum StepRead {
+    Placed(u8, u16),
+    NoStep(Refusal),
+}
+
+// The sections that are open: their semaphores, how many, and whether a lock stands right before.
+pub struct Nest {
+    pub held: [u16; 4],
+    pub depth: usize,
+    pub locked: bool,
+}
+
+// Why a sheet is turned away, or its table.
+pub struct Parsed {
+    pub refusal: Refusal,
+    pub table: Table,
+}
+
+fn refusal(number: u8, rank: u8, step: u8) -> Refusal
+    ensures { λ r. ⌜ r ≡ refusal number rank step ⌝ }
+{
+    Refusal {
+        number: number,
+        rank: rank,
+        step: step,
+    }
+}
+
+fn within(low: u16, high: u16, x: u16) -> bool
+    ensures { λ r. ⌜ r ≡ within low high x ⌝ }
+{
+    if x < low {
+        return false;
+    }
+    x <= high
+}
+
+// The mark is "LTS".
+fn is_marked(s: &[u8]) -> bool
+    requires { ⌜ 8 ≤ length (now s) ⌝ }
+    ensures { λ r. ⌜ r ≡ marked (now (s .entry)) ⌝ }
+{
+    if s[0] != 0x4C {
+        return false;
+    }
+    if s[1] != 0x54 {
+        return false;
+    }
+    s[2] == 0x53
+}
+
+// The head: 1 to 6 in turn.
+fn read_head(s: &[u8]) -> HeadRead
+    ensures { λ r. ⌜ headIn r ≡ readHead (now (s .entry)) ⌝ }
+{
+    if s.len() < 8 {
+        return HeadRead::NoHead(refusal(1, 0, 0));
+    }
+    if !is_marked(s) {
+        return HeadRead::NoHead(refusal(2, 0, 0));
+    }
+    if table::word_at(s, 3) != 1 {
+        return HeadRead::NoHead(refusal(3, 0, 0));
+    }
+    let n = s[5];
+    if !within(1, 16, n as u16) {
+        return HeadRead::NoHead(refusal(4, 0, 0));
+    }
+    let m = s[6];
+    if 16 < m {
+        return HeadRead::NoHead(refusal(5, 0, 0));
+    }
+    let mode = s[7];
+    if 1 < mode {
+        return HeadRead::NoHead(refusal(6, 0, 0));
+    }
+    HeadRead::Begun(Head {
+        n: n,
+        semaphores: m,
+        mode: mode,
+        next: 8,
+    })
+}
+
+// Is a semaphore locked by an open section?
+fn is_open(nest: Nest, x: u16) -> bool
+    requires { ⌜ nest .depth ≤ 4 ⌝ }
+    ensures { λ r. ⌜ r ≡ among x (opened nest) ⌝ }
+{
+    let mut k = nest.depth;
+    while 0 < k {
+        k -= 1;
+        if nest.held[k] == x {
+            return true;
+        }
+    }
+    false
+}
+
+// 12: lock of a semaphore already held, fifth level, unlock of any but the newest held, unlock directly after a lock.
+fn is_misplaced(nest: Nest, kind: u8, value: u16) -> bool
+    requires { ⌜ nest .depth ≤ 4 ⌝ }
+    ensures { λ r. ⌜ r ≡ misplacedIn nest (stepOf kind value) ⌝ }
+{
+    let d = nest.depth;
+    if kind == 1 {
+        return false;
+    }
+    if kind == 2 {
+        if 4 <= d {
+            return true;
+        }
+        return is_open(nest, value);
+    }
+    if d < 1 {
+        return true;
+    }
+    if nest.held[d - 1] != value {
+        return true;
+    }
+    nest.locked
+}
+
+// The nest behind a step that is well placed.
+fn nested(nest: Nest, kind: u8, value: u16) -> Nest
+    requires { ⌜ nest .depth ≤ 4 ⌝ }
+    requires { ⌜ misplacedIn nest (stepOf kind value) ≡ false ⌝ }
+    ensures { λ r. ⌜ r ≡ nestBehind nest (stepOf kind value) ⌝ }
+{
+    let d = nest.depth;
+    let mut q = nest;
+    if kind == 1 {
+        q.locked = false;
+        return q;
+    }
+    if kind == 2 {
+        q.held[d] = value;
+        q.depth = d + 1;
+        q.locked = true;
+        return q;
+    }
+    q.depth = d - 1;
+    q.locked = false;
+    q
+}
+
+// 11: a step's kind unknown or its value out of range.
+fn is_known(m: u8, kind: u8, value: u16) -> bool
+    ensures { λ r. ⌜ r ≡ known m kind value ⌝ }
+{
+    if kind == 1 {
+        return within(1, 1000, value);
+    }
+    if !within(2, 3, kind as u16) {
+        return false;
+    }
+    value < (m as u16)
+}
+
+// Step k of task i: 11 before 12.
+fn read_step(s: &[u8], at: usize, m: u8, i: u8, k: u8, nest: Nest) -> StepRead
+    requires { ⌜ at + 3 ≤ length (now s) ⌝ }
+    requires { ⌜ nest .depth ≤ 4 ⌝ }
+    ensures { λ r. ⌜ stepIn r ≡ readStep m i k nest (drop at (now (s .entry))) ⌝ }
+{
+    let kind = s[at];
+    let value = table::word_at(s, at + 1);
+    if !is_known(m, kind, value) {
+        return StepRead::NoStep(refusal(11, i, k));
+    }
+    if is_misplaced(nest, kind, value) {
+        return StepRead::NoStep(refusal(12, i, k));
+    }
+    StepRead::Placed(kind, value)
+}
+
+fn step_refusal(a: StepRead) -> Refusal
+    ensures { λ r. ⌜ r ≡ stepRefusal a ⌝ }
+{
+    match a {
+        StepRead::Placed(_, _) => refusal(0, 0, 0),
+        StepRead::NoStep(x) => x,
+    }
+}
+
+// The steps of task i, one by one; at the end 12 for sections open.
+fn read_steps(s: &[u8], m: u8, i: u8, e: Entry) -> TaskRead
+    requires { ⌜ Lies (now s) e ⌝ }
+    ensures { λ r. ⌜ entryIn r ≡ readStepsOf m i (now (s .entry)) e ⌝ }
+{
+    let mut nest = Nest {
+        held: [0; 4],
+        depth: 0,
+        locked: false,
+    };
+    let count = e.count;
+    let mut at = e.at as usize;
+    let mut k: u8 = 0;
+    while k < count {
+        let a = read_step(s, at, m, i, k, nest);
+        let StepRead::Placed(kind, value) = a else {
+            return TaskRead::NoTask(step_refusal(a));
+        };
+        let next = nested(nest, kind, value);
+        nest = next;
+        at += 3;
+        k += 1;
+    }
+    if 0 < nest.depth {
+        return TaskRead::NoTask(refusal(12, i, count));
+    }
+    TaskRead::Opened(e, at)
+}
+
+// The head of task i: 7 for the head, 8, 9, 10.
+fn read_task_head(s: &[u8], at: usize, i: u8) -> TaskRead
+    requires { ⌜ at ≤ length (now s) ⌝ }
+    requires { ⌜ at ≤ 3160 ⌝ }
+    ensures { λ r. ⌜ entryIn r ≡ readTaskHead i (now (s .entry)) at ⌝ }
+{
+    if s.len() < at + 5 {
+        return TaskRead::NoTask(refusal(7, i, 0));
+    }
+    let period = table::word_at(s, at);
+    if !within(1, 10000, period) {
+        return TaskRead::NoTask(refusal(8, i, 0));
+    }
+    let offset = table::word_at(s, at + 2);
+    if period <= offset {
+        return TaskRead::NoTask(refusal(9, i, 0));
+    }
+    let count = s[at + 4];
+    if !within(1, 64, count as u16) {
+        return TaskRead::NoTask(refusal(10, i, 0));
+    }
+    let next = at + 5;
+    let e = Entry {
+        period: period,
+        offset: offset,
+        at: next as u16,
+        count: count,
+    };
+    TaskRead::Opened(e, next)
+}
+
+// Task i: its head, 7 for the steps, then the steps.
+fn read_task(s: &[u8], at: usize, m: u8, i: u8) -> TaskRead
+    requires { ⌜ at ≤ length (now s) ⌝ }
+    requires { ⌜ at ≤ 3160 ⌝ }
+    ensures { λ r. ⌜ TaskFrom m i (now (s .entry)) at r ⌝ }
+{
+    let a = read_task_head(s, at, i);
+    let TaskRead::Opened(e, next) = a else {
+        return a;
+    };
+    if s.len() < next + 3 * (e.count as usize) {
+        return TaskRead::NoTask(refusal(7, i, 0));
+    }
+    read_steps(s, m, i, e)
+}
+
+fn task_refusal(a: TaskRead) -> Refusal
+    ensures { λ r. ⌜ r ≡ taskRefusal a ⌝ }
+{
+    match a {
+        TaskRead::Opened(_, _) => refusal(0, 0, 0),
+        TaskRead::NoTask(x) => x,
+    }
+}
+
+// A refusal leaves the table zero.
+fn refused(x: Refusal) -> Parsed
+    ensures { λ r. ⌜ r ≡ turnedAway x ⌝ }
+{
+    let none = Entry {
+        period: 0,
+        offset: 0,
+        at: 0,
+        count: 0,
+    };
+    let table = Table {
+        n: 0,
+        semaphores: 0,
+        mode: 0,
+        entries: [none; 16],
+    };
+    Parsed {
+        refusal: x,
+        table: table,
+    }
+}
+
+// The tasks behind the head, by rank; then 13.
+fn read_tasks(s: &[u8], h: Head) -> Parsed
+    requires { ⌜ readHead (now s) ≡ read h ⌝ }
+    ensures { λ r. ⌜ ParsedFrom (now (s .entry)) r ⌝ }
+{
+    let none = Entry {
+        period: 0,
+        offset: 0,
+        at: 0,
+        count: 0,
+    };
+    let mut entries = [none; 16];
+    let n = h.n;
+    let m = h.semaphores;
+    let mut at = h.next;
+    let mut i: u8 = 0;
+    while i < n {
+        let a = read_task(s, at, m, i);
+        let TaskRead::Opened(e, next) = a else {
+            return refused(task_refusal(a));
+        };
+        let k = i as usize;
+        entries[k] = e;
+        at = next;
+        i += 1;
+    }
+    if at < s.len() {
+        return refused(refusal(13, 0, 0));
+    }
+    let x = refusal(0, 0, 0);
+    let table = Table {
+        n: n,
+        semaphores: m,
+        mode: h.mode,
+        entries: entries,
+    };
+    Parsed {
+        refusal: x,
+        table: table,
+    }
+}
+
+fn head_refusal(a: HeadRead) -> Refusal
+    ensures { λ r. ⌜ r ≡ headRefusal a ⌝ }
+{
+    match a {
+        HeadRead::Begun(_) => refusal(0, 0, 0),
+        HeadRead::NoHead(x) => x,
+    }
+}
+
+// The sheet: its table, or why it is turned away.
+pub fn read_sheet(s: &[u8]) -> Parsed
+    ensures { λ r. ⌜ ParsedFrom (now (s .entry)) r ⌝ }
+{
+    let a = read_head(s);
+    let HeadRead::Begun(h) = a else {
+        return refused(head_refusal(a));
+    };
+    read_tasks(s, h)
+}
