@@ -123,7 +123,7 @@ module _ (sheet : Sheet) (records : List TaskRecord) where
         (λ k n. ap (λ (b : Bool). smallest i (if b then i else 255) (λ j. holds sheet records j k)) (sym (without-other s k own n)))
 
     -- after its steps, rank i has what they hold
-    stepped : (own : List ℕ) (steps : List Step) → afterSteps i steps (row 16 (holderWith sheet records i own)) ≡ row 16 (holderWith sheet records i (heldOnTop own steps))
+    pub stepped : (own : List ℕ) (steps : List Step) → afterSteps i steps (row 16 (holderWith sheet records i own)) ≡ row 16 (holderWith sheet records i (heldOnTop own steps))
     unfolding afterSteps afterStep heldOnTop here
     stepped own [] = refl
     stepped own (run n ∷ steps) = stepped own steps

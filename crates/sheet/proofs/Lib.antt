@@ -4,3 +4,4 @@ pub mod Nesting
 pub mod Steps
 pub mod Tasks
 pub mod Sheets
+pub mod Ceilings

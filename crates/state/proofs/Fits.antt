@@ -1,21 +1,20 @@
 -- Laws of the tests on one record, each in the words of document 01's sentence.
-use Prim.Native.Nat.{ℕ, suc, _+_, _≤_, _<_}
+use Prim.Native.Nat.{ℕ, _+_, _≤_, _<_}
 use mathlib.Core.Path.{_≡_, refl, sym, ap, ap₂, _∙_}
 use mathlib.Core.Logic.{⊎-elim}
 use mathlib.Core.List.{List, [], _∷_}
-use mathlib.Core.Bool.{Bool, true, false, not, _&&_, _||_}
+use mathlib.Core.Bool.{Bool, true, false, not, _&&_}
 use native.Mathlib.Omega.{arith}
-use native.Mathlib.Numerals.{add-one}
 use lib.ListN.{length, getD, drop}
-use borrow.Author.Tests.{lt-ltb, le-ltb, le-leb, lt-leb, eq-eqb, ne-eqb, not-true, not-false, leb-true, leb-false, eqb-true}
-use Rattle.rules.specs.Words.{if_then_else_, _<?_, _≤?_, _=?_, _⇒_, within, every, all}
-use Rattle.rules.specs.Sheet.{Step, run, lock, unlock, Task, Sheet, taskAt}
+use borrow.Author.Tests.{lt-ltb, le-ltb, le-leb, lt-leb, eq-eqb, ne-eqb, not-true, not-false, leb-true, leb-false}
+use Rattle.rules.specs.Words.{_≤?_, _=?_, _⇒_, within, all}
+use Rattle.rules.specs.Sheet.{Step, run, lock, unlock, Task, Sheet}
 use Rattle.rules.specs.Record.{blank, recordAt, ahead, place, counted, zeros, countsFit, runnerFits, zeroRecord, standsWell, jobFits, recordFits, noneHeldByTwo, possible}
 use Rattle.rules.specs.declared.Job.{Job}
 use Rattle.rules.specs.declared.Counts.{Counts}
 use Rattle.rules.specs.declared.TaskRecord.{TaskRecord}
 use Rattle.rules.specs.declared.State.{State}
-use Rattle.rules.proofs.Laws.{sure, and-at, true-false, and-left, and-right, and-no, every-of, every-no}
+use Rattle.rules.proofs.Laws.{sure, and-at, every-of, every-no}
 use Rattle.rules.proofs.Possible.{CountsFit, counts-fit}
 use Rattle.table.specs.Table.{here, taskOf, entryOf, sheetOf}
 use Rattle.table.specs.declared.Entry.{Entry}
@@ -83,6 +82,7 @@ at-most-0 x = ⊎-elim
     (λ e. let l = leb-false x 0 e in rw (e, ne-eqb x 0 (λ z. omega arith)) refl)
     (sure (x ≤? 0))
 
+-- a zero record
 module _ (x : TaskRecord) where
   pub pending-not-zero : x .job .pending ≡ true → false ≡ zeroRecord x
   unfolding zeroRecord

@@ -1,11 +1,15 @@
-// Refusal 16: the test whether a run state is possible for a sheet, sentence by sentence as document 01 has it.
+// Refusal 16: whether a run state is possible for a sheet, decided for any record that is handed in. The functions follow
+// document 01's sentence from its first condition to its last.
 ghost use mathlib.Core.Path.{_≡_};
+ghost use Prim.Native.Nat.{_<_};
 ghost use lib.ListN.{drop};
 ghost use Rattle.rules.specs.Words.{within};
 ghost use Rattle.rules.specs.Record.{place, zeros, countsFit, runnerFits, zeroRecord, standsWell, jobFits, recordFits, noneHeldByTwo, possible};
 ghost use Rattle.table.specs.Table.{taskOf, sheetOf, Lies, Tabled};
 ghost use Rattle.state.specs.Records.{recordsFit};
-ghost use Rattle.state.specs.Holding.{changed, afterStep, afterJob, twice, clash};
+ghost use Rattle.state.specs.Holding.{sameHolder, sameHolders, holdsAlone};
+use choice::after_steps;
+use choice::holders_of;
 use rules::Counts;
 use rules::Job;
 use rules::State;
@@ -51,7 +55,7 @@ fn runner_fits(n: u8, x: u8) -> bool
     x == 255
 }
 
-// position, left and release tick zero
+// position, left and release tick zero;
 fn zero_place(j: Job) -> bool
     ensures { λ r. ⌜ r ≡ zeros (place j) ⌝ }
 {
@@ -79,7 +83,7 @@ fn zero_record(x: TaskRecord) -> bool
     counts_fit(0, x.counts)
 }
 
-// 1 to its full length
+// 1 to its full length left;
 fn from_one_to(full: u16, left: u16) -> bool
     ensures { λ r. ⌜ r ≡ within 1 full left ⌝ }
 {
@@ -118,6 +122,7 @@ fn job_fits(s: &[u8], e: Entry, t: u16, j: Job) -> bool
     stands_well(s, e, position, j.left)
 }
 
+// The record of rank i: its counts and its job fit, and at n and above it is zero.
 fn record_fits(s: &[u8], table: Table, t: u16, i: usize, x: TaskRecord) -> bool
     requires { ⌜ Tabled (now s) table ⌝ }
     ensures { λ r. ⌜ r ≡ recordFits (sheetOf (now (s .entry)) table) t i x ⌝ }
@@ -136,7 +141,7 @@ fn record_fits(s: &[u8], table: Table, t: u16, i: usize, x: TaskRecord) -> bool
     zero_record(x)
 }
 
-// the sixteen records
+// The sixteen records.
 fn records_fit(s: &[u8], table: Table, st: State) -> bool
     requires { ⌜ Tabled (now s) table ⌝ }
     ensures { λ r. ⌜ r ≡ recordsFit (sheetOf (now (s .entry)) table) st ⌝ }
@@ -153,97 +158,57 @@ fn records_fit(s: &[u8], table: Table, st: State) -> bool
     true
 }
 
-// Entry k, where it is `old`, becomes `new`.
-fn changed_at(old: u8, new: u8, k: u16, hs: [u8; 16]) -> [u8; 16]
-    ensures { λ r. ⌜ r ≡ changed old new k hs ⌝ }
+// A semaphore of holder `own`, 255 if nobody holds it, has no other holder h.
+fn same_holder(own: u8, h: u8) -> bool
+    ensures { λ r. ⌜ r ≡ sameHolder own h ⌝ }
 {
-    if 16 <= k {
-        return hs;
+    if own == 255 {
+        return true;
     }
-    let at = k as usize;
-    let h = hs[at];
-    if h != old {
-        return hs;
-    }
-    let mut out = hs;
-    out[at] = new;
-    out
+    h == own
 }
 
-// The holders after a step of rank i.
-fn after_step(i: u8, x: Here, hs: [u8; 16]) -> [u8; 16]
-    ensures { λ r. ⌜ r ≡ afterStep i x hs ⌝ }
-{
-    match x {
-        Here::Run(_) => hs,
-        Here::Lock(k) => changed_at(255, i, k, hs),
-        Here::Unlock(k) => changed_at(i, 255, k, hs),
-        Here::End => hs,
-    }
-}
-
-// The holders, with what a job of rank i holds: where nobody holds it yet.
-pub fn after_job(s: &[u8], e: Entry, j: Job, i: u8, hs: [u8; 16]) -> [u8; 16]
-    requires { ⌜ Lies (now s) e ⌝ }
-    ensures { λ r. ⌜ r ≡ afterJob i (taskOf (now (s .entry)) e) j hs ⌝ }
-{
-    if !j.pending {
-        return hs;
-    }
-    let position = j.position as usize;
-    let mut out = hs;
-    let mut p: usize = 0;
-    while p < position {
-        let x = step_at(s, e, p);
-        let more = after_step(i, x, out);
-        out = more;
-        p += 1;
-    }
-    out
-}
-
-// Two holders of one semaphore, 255 for nobody.
-fn held_twice(a: u8, b: u8) -> bool
-    ensures { λ r. ⌜ r ≡ twice a b ⌝ }
-{
-    if a == 255 {
-        return false;
-    }
-    b != 255
-}
-
-// Is a semaphore held in both rows of holders?
-fn clashes(own: [u8; 16], owners: [u8; 16]) -> bool
-    ensures { λ r. ⌜ r ≡ clash own owners ⌝ }
+// Each semaphore that has a holder in `own` has the same in `hs`.
+fn same_holders(own: [u8; 16], hs: [u8; 16]) -> bool
+    ensures { λ r. ⌜ r ≡ sameHolders own hs ⌝ }
 {
     let mut k: usize = 0;
     while k < 16 {
-        if held_twice(own[k], owners[k]) {
-            return true;
+        if !same_holder(own[k], hs[k]) {
+            return false;
         }
         k += 1;
     }
-    false
+    true
 }
 
-// no semaphore is held by two.
+// Each semaphore that a job of rank i holds has rank i for its holder in `hs`.
+fn holds_alone(s: &[u8], e: Entry, j: Job, i: u8, hs: [u8; 16]) -> bool
+    requires { ⌜ (Lies (now s) e) × (i < 255) ⌝ }
+    ensures { λ r. ⌜ r ≡ holdsAlone i (taskOf (now (s .entry)) e) j hs ⌝ }
+{
+    if !j.pending {
+        return true;
+    }
+    let position = j.position as usize;
+    let own = after_steps(s, e, 0, position, i, [255u8; 16]);
+    same_holders(own, hs)
+}
+
+// no semaphore is held by two: where two hold one, the holder is only one of them.
 fn none_held_by_two(s: &[u8], table: Table, st: State) -> bool
     requires { ⌜ Tabled (now s) table ⌝ }
     ensures { λ r. ⌜ r ≡ noneHeldByTwo (sheetOf (now (s .entry)) table) (st .tasks) ⌝ }
 {
-    let mut owners = [255u8; 16];
+    let hs = holders_of(s, table, st);
+    let n = table.n as usize;
     let mut i: usize = 0;
-    while i < 16 {
-        let e = entry_at(table, i);
+    while i < n {
+        let e = table.entries[i];
         let x = st.tasks[i];
-        let j = x.job;
-        let rank = i as u8;
-        let own = after_job(s, e, j, rank, [255u8; 16]);
-        if clashes(own, owners) {
+        if !holds_alone(s, e, x.job, i as u8, hs) {
             return false;
         }
-        let more = after_job(s, e, j, rank, owners);
-        owners = more;
         i += 1;
     }
     true

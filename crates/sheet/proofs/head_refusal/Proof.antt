@@ -1,29 +1,21 @@
 use mathlib.Core.Path.{ap, sym, _∙_}
-use Rattle.sheet.specs.Reader.{headRefusal}
 use borrow.Author.Needs.{needs}
+use Rattle.sheet.specs.Reader.{headRefusal}
 use Rattle.sheet.proofs.head_refusal.Statement.{statement}
 use Rattle.sheet.proofs.head_refusal.Tie as tie
-use Rattle.sheet.proofs.head_refusal.Reads as reads
-use Rattle.sheet.proofs.head_refusal.Lts as lts
-use Rattle.sheet.proofs.refusal.Reads as refusal-reads
 
--- src/lib.rt:374:31
 enum-told : tie.Need-enum-told
 enum-told c = search needs
 
--- src/lib.rt:374:31
 refusal-requires : tie.Need-refusal-requires
 refusal-requires c κs = search needs
 
--- src/lib.rt:375:26
 enum-known-a : tie.Need-enum-known-a
 enum-known-a c = search needs
 
--- src/lib.rt:370:1
 returns : tie.Need-returns
 returns c = c .refusal .ensures ∙ sym (ap headRefusal (c .before .enum-told .given .1))
 
--- src/lib.rt:370:1
 returns-2 : tie.Need-returns-2
 returns-2 c = search needs
 

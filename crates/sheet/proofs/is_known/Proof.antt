@@ -1,28 +1,20 @@
-use Rattle.sheet.proofs.Tests.{known-run, known-none, known-below}
 use borrow.Author.Needs.{needs}
+use Rattle.sheet.proofs.Tests.{known-run, known-none, known-below}
 use Rattle.sheet.proofs.is_known.Statement.{statement}
 use Rattle.sheet.proofs.is_known.Tie as tie
-use Rattle.sheet.proofs.is_known.Reads as reads
-use Rattle.sheet.proofs.is_known.Lts as lts
-use Rattle.sheet.proofs.within.Reads as within-reads
 
--- src/lib.rt:187:9
 within-requires : tie.Need-within-requires
 within-requires c κs = search needs
 
--- src/lib.rt:187:9
 returns : tie.Need-returns
 returns c = search known-run
 
--- src/lib.rt:189:9
 within-requires-2 : tie.Need-within-requires-2
 within-requires-2 c κs = search needs
 
--- src/lib.rt:190:9
 returns-2 : tie.Need-returns-2
 returns-2 c = search known-none
 
--- src/lib.rt:183:1
 returns-3 : tie.Need-returns-3
 returns-3 c = search known-below
 

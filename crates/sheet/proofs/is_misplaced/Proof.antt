@@ -1,44 +1,32 @@
-use Rattle.sheet.proofs.Nesting.{placed-run, fifth-level, already-held, none-open, not-newest, after-lock}
 use borrow.Author.Needs.{needs}
+use Rattle.sheet.proofs.Nesting.{placed-run, fifth-level, already-held, none-open, not-newest, after-lock}
 use Rattle.sheet.proofs.is_misplaced.Statement.{statement}
 use Rattle.sheet.proofs.is_misplaced.Tie as tie
-use Rattle.sheet.proofs.is_misplaced.Reads as reads
-use Rattle.sheet.proofs.is_misplaced.Lts as lts
-use Rattle.sheet.proofs.is_open.Reads as is-open-reads
 
--- src/lib.rt:142:9
 returns : tie.Need-returns
 returns c = search placed-run
 
--- src/lib.rt:146:13
 returns-2 : tie.Need-returns-2
 returns-2 c = search fifth-level
 
--- src/lib.rt:148:9
 is-open-requires : tie.Need-is-open-requires
 is-open-requires c κs = search needs
 
--- src/lib.rt:148:9
 returns-3 : tie.Need-returns-3
 returns-3 c = search already-held
 
--- src/lib.rt:151:9
 returns-4 : tie.Need-returns-4
 returns-4 c = search none-open
 
--- src/lib.rt:153:8
 mul-if5 : tie.Need-mul-if5
 mul-if5 c = search needs
 
--- src/lib.rt:153:8
 element-copy-out-if5 : tie.Need-element-copy-out-if5
 element-copy-out-if5 c = search needs
 
--- src/lib.rt:154:9
 returns-5 : tie.Need-returns-5
 returns-5 c = search not-newest
 
--- src/lib.rt:136:1
 returns-6 : tie.Need-returns-6
 returns-6 c = search after-lock
 

@@ -1,96 +1,70 @@
-use Rattle.sheet.proofs.Heads.{head-1, head-2, head-3, head-4, head-5, head-6, head-good}
 use native.Mathlib.Omega.{arith}
-use Rattle.rules.specs.Reading.{byte}
 use borrow.Author.Needs.{needs}
+use Rattle.rules.specs.Reading.{byte}
+use Rattle.sheet.proofs.Heads.{head-1, head-2, head-3, head-4, head-5, head-6, head-good}
 use Rattle.sheet.proofs.read_head.Statement.{statement}
 use Rattle.sheet.proofs.read_head.Tie as tie
-use Rattle.sheet.proofs.read_head.Reads as reads
-use Rattle.sheet.proofs.read_head.Lts as lts
-use Rattle.sheet.proofs.is_marked.Reads as is-marked-reads
-use Rattle.sheet.proofs.refusal.Reads as refusal-reads
-use Rattle.sheet.proofs.within.Reads as within-reads
-use Rattle.table.proofs.word_at.Reads as word-at-reads
 
--- src/lib.rt:92:33
 refusal-requires : tie.Need-refusal-requires
 refusal-requires c κs = search needs
 
--- src/lib.rt:92:9
 returns : tie.Need-returns
 returns c = search head-1
 
--- src/lib.rt:94:9
 is-marked-requires : tie.Need-is-marked-requires
 is-marked-requires c κs = search needs
 
--- src/lib.rt:95:33
 refusal-requires-2 : tie.Need-refusal-requires-2
 refusal-requires-2 c κs = search needs
 
--- src/lib.rt:95:9
 returns-2 : tie.Need-returns-2
 returns-2 c = search head-2
 
--- src/lib.rt:97:8
 word-at-requires : tie.Need-word-at-requires
 word-at-requires c κs = search needs
 
--- src/lib.rt:98:33
 refusal-requires-3 : tie.Need-refusal-requires-3
 refusal-requires-3 c κs = search needs
 
--- src/lib.rt:98:9
 returns-3 : tie.Need-returns-3
 returns-3 c = search head-3
 
--- src/lib.rt:100:13
 shared-slice-read-n : tie.Need-shared-slice-read-n
 shared-slice-read-n c = search needs
 
--- src/lib.rt:101:23
 cast-within : tie.Need-cast-within
 cast-within c = omega (arith, c .shared-slice-known2 .given 5)
 
--- src/lib.rt:101:9
 within-requires : tie.Need-within-requires
 within-requires c κs = search needs
 
--- src/lib.rt:102:33
 refusal-requires-4 : tie.Need-refusal-requires-4
 refusal-requires-4 c κs = search needs
 
--- src/lib.rt:102:9
 returns-4 : tie.Need-returns-4
 unfolding byte
 returns-4 c = search head-4
 
--- src/lib.rt:104:13
 shared-slice-read-m : tie.Need-shared-slice-read-m
 shared-slice-read-m c = search needs
 
--- src/lib.rt:106:33
 refusal-requires-5 : tie.Need-refusal-requires-5
 refusal-requires-5 c κs = search needs
 
--- src/lib.rt:106:9
 returns-5 : tie.Need-returns-5
 unfolding byte
 returns-5 c = search head-5
 
--- src/lib.rt:108:16
 shared-slice-read-mode : tie.Need-shared-slice-read-mode
 shared-slice-read-mode c = search needs
 
--- src/lib.rt:110:33
 refusal-requires-6 : tie.Need-refusal-requires-6
 refusal-requires-6 c κs = search needs
 
--- src/lib.rt:110:9
 returns-6 : tie.Need-returns-6
 unfolding byte
 returns-6 c = search head-6
 
--- src/lib.rt:88:1
 returns-7 : tie.Need-returns-7
 unfolding byte
 returns-7 c = search head-good

@@ -1,15 +1,9 @@
-use borrow.Author.Needs.{needs}
-use native.Mathlib.Omega.{arith}
 use Prim.Native.Nat.{_-_}
+use native.Mathlib.Omega.{arith}
+use borrow.Author.Needs.{needs}
 use Rattle.sheet.proofs.Steps.{Going, going-first, steps-refused, placed-here, going-more, sections-open, steps-read}
 use Rattle.sheet.proofs.read_steps.Statement.{statement}
 use Rattle.sheet.proofs.read_steps.Tie as tie
-use Rattle.sheet.proofs.read_steps.Reads as reads
-use Rattle.sheet.proofs.read_steps.Lts as lts
-use Rattle.sheet.proofs.nested.Reads as nested-reads
-use Rattle.sheet.proofs.read_step.Reads as read-step-reads
-use Rattle.sheet.proofs.refusal.Reads as refusal-reads
-use Rattle.sheet.proofs.step_refusal.Reads as step-refusal-reads
 
 abbrev Inv-loop : tie.InvT-loop
 Inv-loop s m i e nest₀ count at₀ k₀ nest at k = Going m i s e nest at k
@@ -17,63 +11,48 @@ Inv-loop s m i e nest₀ count at₀ k₀ nest at k = Going m i s e nest at k
 abbrev μ-loop : tie.MeasureT-loop
 μ-loop s m i e nest₀ count at₀ k₀ nest at k = count - k
 
--- src/lib.rt:232:18
 cast-at : tie.Need-cast-at Inv-loop μ-loop
 cast-at c = search needs
 
--- src/lib.rt:234:5
 loop-holds : tie.Need-loop-holds Inv-loop μ-loop
 loop-holds c = let a = c .before .before .args in going-first (a .m) (a .i) (a .s .now) (a .e)
 
--- src/lib.rt:235:13
 read-step-requires : tie.Need-read-step-requires Inv-loop μ-loop
 read-step-requires c κs = omega arith
 
--- src/lib.rt:236:30
 enum-known-a : tie.Need-enum-known-a Inv-loop μ-loop
 enum-known-a c = search needs
 
--- src/lib.rt:237:37
 enum-told : tie.Need-enum-told Inv-loop μ-loop
 enum-told c = search needs
 
--- src/lib.rt:237:37
 step-refusal-requires : tie.Need-step-refusal-requires Inv-loop μ-loop
 step-refusal-requires c κs = search needs
 
--- src/lib.rt:237:13
 returns : tie.Need-returns Inv-loop μ-loop
 returns c = search steps-refused
 
--- src/lib.rt:239:13
 nested-requires : tie.Need-nested-requires Inv-loop μ-loop
 nested-requires c κs = (omega arith, search placed-here)
 
--- src/lib.rt:241:9
 add-at : tie.Need-add-at Inv-loop μ-loop
 add-at c = omega arith
 
--- src/lib.rt:242:9
 add-k : tie.Need-add-k Inv-loop μ-loop
 add-k c = omega arith
 
--- src/lib.rt:234:5
 loop-less : tie.Need-loop-less Inv-loop μ-loop
 loop-less c = omega arith
 
--- src/lib.rt:234:5
 loop-again : tie.Need-loop-again Inv-loop μ-loop
 loop-again c = search going-more
 
--- src/lib.rt:245:33
 refusal-requires : tie.Need-refusal-requires Inv-loop μ-loop
 refusal-requires c κs = search needs
 
--- src/lib.rt:245:9
 returns-2 : tie.Need-returns-2 Inv-loop μ-loop
 returns-2 c = search sections-open
 
--- src/lib.rt:222:1
 returns-3 : tie.Need-returns-3 Inv-loop μ-loop
 returns-3 c = search steps-read
 

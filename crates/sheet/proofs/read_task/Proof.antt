@@ -1,55 +1,39 @@
 use native.Mathlib.Omega.{arith}
-use Rattle.sheet.proofs.Tasks.{head-refused, next-fits, steps-short, steps-lie, task-whole}
 use borrow.Author.Needs.{needs}
+use Rattle.sheet.proofs.Tasks.{head-refused, next-fits, steps-short, steps-lie, task-whole}
 use Rattle.sheet.proofs.read_task.Statement.{statement}
 use Rattle.sheet.proofs.read_task.Tie as tie
-use Rattle.sheet.proofs.read_task.Reads as reads
-use Rattle.sheet.proofs.read_task.Lts as lts
-use Rattle.sheet.proofs.read_steps.Reads as read-steps-reads
-use Rattle.sheet.proofs.read_task_head.Reads as read-task-head-reads
-use Rattle.sheet.proofs.refusal.Reads as refusal-reads
 
--- src/lib.rt:287:9
 read-task-head-requires : tie.Need-read-task-head-requires
 read-task-head-requires c κs = search needs
 
--- src/lib.rt:288:26
 enum-known-a : tie.Need-enum-known-a
 enum-known-a c = search needs
 
--- src/lib.rt:289:9
 enum-told : tie.Need-enum-told
 enum-told c = search needs
 
--- src/lib.rt:289:9
 returns : tie.Need-returns
 returns c = search head-refused
 
--- src/lib.rt:291:30
 cast-if1 : tie.Need-cast-if1
 cast-if1 c = search needs
 
--- src/lib.rt:291:25
 mul-if1 : tie.Need-mul-if1
 mul-if1 c = search needs
 
--- src/lib.rt:291:18
 add-if1 : tie.Need-add-if1
 add-if1 c = let a = c .before .before .before .before .before .before .args in let f = next-fits (a .m) _ _ _ _ (c .before .before .before .before .read-task-head .ensures) _ _ (c .before .before .a .given .1) in omega arith
 
--- src/lib.rt:292:33
 refusal-requires : tie.Need-refusal-requires
 refusal-requires c κs = search needs
 
--- src/lib.rt:292:9
 returns-2 : tie.Need-returns-2
 returns-2 c = search steps-short
 
--- src/lib.rt:294:5
 read-steps-requires : tie.Need-read-steps-requires
 read-steps-requires c κs = search steps-lie
 
--- src/lib.rt:282:1
 returns-3 : tie.Need-returns-3
 returns-3 c = search task-whole
 

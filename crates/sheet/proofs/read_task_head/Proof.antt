@@ -1,94 +1,69 @@
-use Rattle.sheet.proofs.Tasks.{task-7, task-8, task-9, task-10, task-good}
-use native.Mathlib.Omega.{arith}
 use Prim.Native.Nat.{_+_}
-use Rattle.rules.specs.Reading.{byte}
+use native.Mathlib.Omega.{arith}
 use borrow.Author.Needs.{needs}
+use Rattle.rules.specs.Reading.{byte}
+use Rattle.sheet.proofs.Tasks.{task-7, task-8, task-9, task-10, task-good}
 use Rattle.sheet.proofs.read_task_head.Statement.{statement}
 use Rattle.sheet.proofs.read_task_head.Tie as tie
-use Rattle.sheet.proofs.read_task_head.Reads as reads
-use Rattle.sheet.proofs.read_task_head.Lts as lts
-use Rattle.sheet.proofs.refusal.Reads as refusal-reads
-use Rattle.sheet.proofs.within.Reads as within-reads
-use Rattle.table.proofs.word_at.Reads as word-at-reads
 
--- src/lib.rt:256:18
 add-if1 : tie.Need-add-if1
 add-if1 c = search needs
 
--- src/lib.rt:257:33
 refusal-requires : tie.Need-refusal-requires
 refusal-requires c κs = search needs
 
--- src/lib.rt:257:9
 returns : tie.Need-returns
 returns c = search task-7
 
--- src/lib.rt:259:9
 word-at-requires : tie.Need-word-at-requires
 word-at-requires c κs = search needs
 
--- src/lib.rt:260:9
 within-requires : tie.Need-within-requires
 within-requires c κs = search needs
 
--- src/lib.rt:261:33
 refusal-requires-2 : tie.Need-refusal-requires-2
 refusal-requires-2 c κs = search needs
 
--- src/lib.rt:261:9
 returns-2 : tie.Need-returns-2
 returns-2 c = search task-8
 
--- src/lib.rt:263:36
 add-word-at : tie.Need-add-word-at
 add-word-at c = search needs
 
--- src/lib.rt:263:9
 word-at-requires-2 : tie.Need-word-at-requires-2
 word-at-requires-2 c κs = search needs
 
--- src/lib.rt:265:33
 refusal-requires-3 : tie.Need-refusal-requires-3
 refusal-requires-3 c κs = search needs
 
--- src/lib.rt:265:9
 returns-3 : tie.Need-returns-3
 returns-3 c = search task-9
 
--- src/lib.rt:267:19
 add-count : tie.Need-add-count
 add-count c = search needs
 
--- src/lib.rt:267:17
 shared-slice-read-count : tie.Need-shared-slice-read-count
 shared-slice-read-count c = search needs
 
--- src/lib.rt:268:23
 cast-within : tie.Need-cast-within
 cast-within c = let a = c .before .before .before .before .before .before .before .before .args in omega (arith, c .shared-slice-known2 .given (a .at + 4))
 
--- src/lib.rt:268:9
 within-requires-2 : tie.Need-within-requires-2
 within-requires-2 c κs = search needs
 
--- src/lib.rt:269:33
 refusal-requires-4 : tie.Need-refusal-requires-4
 refusal-requires-4 c κs = search needs
 
--- src/lib.rt:269:9
 returns-4 : tie.Need-returns-4
 unfolding byte
 returns-4 c = search task-10
 
--- src/lib.rt:271:16
 add-next : tie.Need-add-next
 add-next c = search needs
 
--- src/lib.rt:275:13
 cast-t18 : tie.Need-cast-t18
 cast-t18 c = search needs
 
--- src/lib.rt:251:1
 returns-5 : tie.Need-returns-5
 unfolding byte
 returns-5 c = search task-good

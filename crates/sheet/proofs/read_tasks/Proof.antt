@@ -1,15 +1,9 @@
-use borrow.Author.Needs.{needs}
-use native.Mathlib.Omega.{arith}
 use Prim.Native.Nat.{_-_}
+use native.Mathlib.Omega.{arith}
+use borrow.Author.Needs.{needs}
 use Rattle.sheet.proofs.Sheets.{Taking, taking-first, task-away, taking-more, bytes-left, sheet-read}
 use Rattle.sheet.proofs.read_tasks.Statement.{statement}
 use Rattle.sheet.proofs.read_tasks.Tie as tie
-use Rattle.sheet.proofs.read_tasks.Reads as reads
-use Rattle.sheet.proofs.read_tasks.Lts as lts
-use Rattle.sheet.proofs.read_task.Reads as read-task-reads
-use Rattle.sheet.proofs.refusal.Reads as refusal-reads
-use Rattle.sheet.proofs.refused.Reads as refused-reads
-use Rattle.sheet.proofs.task_refusal.Reads as task-refusal-reads
 
 abbrev Inv-loop : tie.InvT-loop
 Inv-loop s h entries₀ n m at₀ i₀ entries at i = Taking s h entries at i
@@ -17,75 +11,57 @@ Inv-loop s h entries₀ n m at₀ i₀ entries at i = Taking s h entries at i
 abbrev μ-loop : tie.MeasureT-loop
 μ-loop s h entries₀ n m at₀ i₀ entries at i = n - i
 
--- src/lib.rt:344:5
 loop-holds : tie.Need-loop-holds Inv-loop μ-loop
 loop-holds c = taking-first (c .before .args .s .now) (c .before .args .h) (c .before .pre)
 
--- src/lib.rt:345:13
 read-task-requires : tie.Need-read-task-requires Inv-loop μ-loop
 read-task-requires c κs = omega arith
 
--- src/lib.rt:346:30
 enum-known-a : tie.Need-enum-known-a Inv-loop μ-loop
 enum-known-a c = search needs
 
--- src/lib.rt:347:28
 enum-told : tie.Need-enum-told Inv-loop μ-loop
 enum-told c = search needs
 
--- src/lib.rt:347:28
 task-refusal-requires : tie.Need-task-refusal-requires Inv-loop μ-loop
 task-refusal-requires c κs = search needs
 
--- src/lib.rt:347:13
 refused-requires : tie.Need-refused-requires Inv-loop μ-loop
 refused-requires c κs = search needs
 
--- src/lib.rt:347:13
 returns : tie.Need-returns Inv-loop μ-loop
 returns c = search task-away
 
--- src/lib.rt:349:17
 cast-k : tie.Need-cast-k Inv-loop μ-loop
 cast-k c = omega arith
 
--- src/lib.rt:350:9
 mul-entries : tie.Need-mul-entries Inv-loop μ-loop
 mul-entries c = omega arith
 
--- src/lib.rt:350:9
 array-set-from-entries : tie.Need-array-set-from-entries Inv-loop μ-loop
 array-set-from-entries c = omega arith
 
--- src/lib.rt:352:9
 add-i : tie.Need-add-i Inv-loop μ-loop
 add-i c = omega arith
 
--- src/lib.rt:344:5
 loop-less : tie.Need-loop-less Inv-loop μ-loop
 loop-less c = omega arith
 
--- src/lib.rt:344:5
 loop-again : tie.Need-loop-again Inv-loop μ-loop
 loop-again c = search taking-more
 
--- src/lib.rt:355:24
 refusal-requires : tie.Need-refusal-requires Inv-loop μ-loop
 refusal-requires c κs = search needs
 
--- src/lib.rt:355:9
 refused-requires-2 : tie.Need-refused-requires-2 Inv-loop μ-loop
 refused-requires-2 c κs = search needs
 
--- src/lib.rt:355:9
 returns-2 : tie.Need-returns-2 Inv-loop μ-loop
 returns-2 c = search bytes-left
 
--- src/lib.rt:357:9
 refusal-requires-2 : tie.Need-refusal-requires-2 Inv-loop μ-loop
 refusal-requires-2 c κs = search needs
 
--- src/lib.rt:329:1
 returns-3 : tie.Need-returns-3 Inv-loop μ-loop
 returns-3 c = search sheet-read
 

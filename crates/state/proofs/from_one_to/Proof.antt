@@ -1,3 +1,4 @@
+use native.Mathlib.Omega.{arith}
 use Rattle.state.proofs.Fits.{none-left, some-left}
 use Rattle.state.proofs.from_one_to.Statement.{statement}
 use Rattle.state.proofs.from_one_to.Tie as tie
@@ -6,11 +7,11 @@ use Rattle.state.proofs.from_one_to.Lts as lts
 
 -- src/lib.rt:88:9
 returns : tie.Need-returns
-returns c = search none-left
+returns c = none-left _ _ (omega arith)
 
 -- src/lib.rt:84:1
 returns-2 : tie.Need-returns-2
-returns-2 c = search some-left
+returns-2 c = some-left _ _ (omega arith)
 
 pub from-one-to-spec : {M : Type 1} → statement M
 from-one-to-spec = tie.close (tie.spec returns returns-2)

@@ -1,3 +1,4 @@
+use native.Mathlib.Omega.{arith}
 use Rattle.state.proofs.Fits.{job-rests, job-late, job-stands}
 use borrow.Author.Needs.{needs}
 use Rattle.state.proofs.job_fits.Statement.{statement}
@@ -17,7 +18,7 @@ returns c = search job-rests
 
 -- src/lib.rt:116:9
 returns-2 : tie.Need-returns-2
-returns-2 c = search job-late
+returns-2 c = job-late _ _ _ (c .before .before .if1 .left) (omega arith)
 
 -- src/lib.rt:118:20
 cast-position : tie.Need-cast-position

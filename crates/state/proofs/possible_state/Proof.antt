@@ -1,3 +1,4 @@
+use native.Mathlib.Omega.{arith}
 use Rattle.state.proofs.Fits.{late, many-switches, runner-off, records-off, else-single}
 use borrow.Author.Needs.{needs}
 use Rattle.state.proofs.possible_state.Statement.{statement}
@@ -10,7 +11,7 @@ use Rattle.state.proofs.runner_fits.Reads as runner-fits-reads
 
 -- src/lib.rt:260:9
 returns : tie.Need-returns
-returns c = search late
+returns c = late _ _ _ (omega arith)
 
 -- src/lib.rt:263:9
 returns-2 : tie.Need-returns-2

@@ -1,0 +1,276 @@
+-- Laws of C, sections and bounds.
+use Prim.Native.Nat.{ℕ, zero, suc, _+_, _*_, _≤_, _<_, max}
+use mathlib.Core.Path.{_≡_, refl, sym, ap, _∙_, subst}
+use mathlib.Core.Logic.{⊎-elim}
+use mathlib.Core.List.{List, [], _∷_}
+use mathlib.Core.Bool.{Bool, true, false}
+use native.Mathlib.Omega.{arith}
+use borrow.Author.Tests.{lt-ltb, le-ltb, le-leb, lt-leb}
+use mir.Val.{Fits}
+use mir.Syntax.{w16, w64}
+use lib.ListN.{length, getD, drop}
+use lib.Seq.{drop-drop}
+use Rattle.rules.specs.Words.{if_then_else_, _<?_, _≤?_, _=?_, row, largest}
+use Rattle.rules.specs.Sheet.{Step, run, lock, unlock, Task, Sheet, taskAt}
+use Rattle.rules.specs.Choice.{ceiling}
+use Rattle.rules.specs.Bounds.{runs, inside, sectionLength, bound, cost}
+use Rattle.rules.specs.Answers.{byRank}
+use Rattle.rules.specs.Laws.{All, StepLimits, Limits}
+use Rattle.rules.proofs.Laws.{below, row-at}
+use Rattle.rules.proofs.Limits.{acceptedWithinLimits}
+use Rattle.table.specs.Table.{here, stepsAt, taskOf, entryOf, sheetOf, Tabled}
+use Rattle.table.specs.declared.Entry.{Entry}
+use Rattle.table.specs.declared.Table.{Table}
+use Rattle.table.specs.declared.Here.{Here}
+use Rattle.table.specs.declared.Here.the-variants.{Run, Lock, Unlock, End}
+use Rattle.table.proofs.Laws.{length-steps, steps-past, entry-out, task-at, tasks-count}
+use Rattle.analysis.specs.Steps.{ticks, isUnlockOf, atMost, Sound}
+use Rattle.analysis.proofs.Laws.{Filled, filled-ranks, largest-turn, largest-end, largest-same, largest-none, largest-le}
+
+-- a row of steps by its first and the rest
+runs-first : (steps : List Step) → runs steps ≡ ticks (here steps) + runs (drop 1 steps)
+unfolding runs here
+runs-first [] = refl
+runs-first (run n ∷ steps) = refl
+runs-first (lock s ∷ steps) = omega arith
+runs-first (unlock s ∷ steps) = omega arith
+
+inside-first : (u : ℕ) (steps : List Step) → isUnlockOf u (here steps) ≡ false → runs (inside u steps) ≡ ticks (here steps) + runs (inside u (drop 1 steps))
+unfolding runs inside here
+inside-first u [] e = refl
+inside-first u (run n ∷ steps) e = refl
+inside-first u (lock s ∷ steps) e = omega arith
+inside-first u (unlock s ∷ steps) e = rw e (omega arith)
+
+inside-last : (u : ℕ) (steps : List Step) → isUnlockOf u (here steps) ≡ true → runs (inside u steps) ≡ 0
+unfolding runs inside here
+inside-last u [] e = refl
+inside-last u (run n ∷ steps) e = absurd (let z : _≡_ {A = ℕ} 0 1 = cc in omega arith)
+inside-last u (lock s ∷ steps) e = absurd (let z : _≡_ {A = ℕ} 0 1 = cc in omega arith)
+inside-last u (unlock s ∷ steps) e = rw e refl
+
+-- the limits of steps: each runs at most 1,000 ticks, and a section at most as long as the steps behind its lock
+runs-limit : (m : ℕ) (steps : List Step) → All (StepLimits m) steps → runs steps ≤ 1000 * length steps
+unfolding runs
+runs-limit m [] α = omega arith
+runs-limit m (run n ∷ steps) α = omega (arith, runs-limit m steps (α .1))
+runs-limit m (lock s ∷ steps) α = omega (arith, runs-limit m steps (α .1))
+runs-limit m (unlock s ∷ steps) α = omega (arith, runs-limit m steps (α .1))
+
+inside-le : (u : ℕ) (steps : List Step) → runs (inside u steps) ≤ runs steps
+unfolding runs inside
+inside-le u [] = omega arith
+inside-le u (run n ∷ steps) = omega (arith, inside-le u steps)
+inside-le u (lock s ∷ steps) = inside-le u steps
+inside-le u (unlock s ∷ steps) = go (s =? u) (inside-le u steps)
+  where
+    go : (b : Bool) → runs (inside u steps) ≤ runs steps → runs (if b then [] else unlock s ∷ inside u steps) ≤ runs steps
+    go true l = omega arith
+    go false l = l
+
+runs-drop : (k : ℕ) (steps : List Step) → runs (drop k steps) ≤ runs steps
+unfolding runs
+runs-drop zero steps = omega arith
+runs-drop (suc k) [] = omega arith
+runs-drop (suc k) (run n ∷ steps) = omega (arith, runs-drop k steps)
+runs-drop (suc k) (lock s ∷ steps) = runs-drop k steps
+runs-drop (suc k) (unlock s ∷ steps) = runs-drop k steps
+
+-- an entry of an accepted sheet
+module _ (bytes : List ℕ) (table : Table) (τ : Tabled bytes table) where
+  pub limits : Limits bytes (sheetOf bytes table)
+  limits = acceptedWithinLimits bytes (sheetOf bytes table) (τ .reads)
+
+  all-sixteen : (m : ℕ) → m ≤ 16 → (steps : List Step) → All (StepLimits m) steps → All (StepLimits 16) steps
+  all-sixteen m l [] α = tt
+  all-sixteen m l (run n ∷ steps) α = (α .0, all-sixteen m l steps (α .1))
+  all-sixteen m l (lock s ∷ steps) α = (omega arith, all-sixteen m l steps (α .1))
+  all-sixteen m l (unlock s ∷ steps) α = (omega arith, all-sixteen m l steps (α .1))
+
+  steps-limits : (i : ℕ) → All (StepLimits 16) (taskOf bytes (entryOf table i) .steps)
+  unfolding taskOf stepsAt row
+  steps-limits i = ⊎-elim
+      (λ l.
+      let task = limits .each i (rw (tasks-count bytes table) l) in
+      subst (λ (x : Task). All (StepLimits 16) (x .steps)) (task-at bytes table i)
+      (all-sixteen (sheetOf bytes table .semaphores) (limits .semaphores) (taskAt (sheetOf bytes table) i .steps) (task .steps)))
+      (λ l. subst (λ (x : Entry). All (StepLimits 16) (taskOf bytes x .steps)) (entry-out table i l) tt)
+      (below i (table .n))
+
+  pub sound-from : (i : ℕ) (e : Entry) → e ≡ entryOf table i → Sound bytes e
+  sound-from i e u = subst (λ (x : Entry). Sound bytes x) (sym u) (record { lies = τ .lies i; limits = steps-limits i })
+
+-- its steps run at most 64,000 ticks
+pub sound-runs : (bytes : List ℕ) (e : Entry) → Sound bytes e → runs (taskOf bytes e .steps) ≤ 64000
+sound-runs bytes e σ = omega (arith, runs-limit 16 (taskOf bytes e .steps) (σ .limits), length-steps bytes e, σ .lies .few)
+
+-- the sum of the runs from a position on: what is summed and what is left make the whole
+module _ (bytes : List ℕ) (e : Entry) where
+  abbrev steps : List Step
+  steps = taskOf bytes e .steps
+
+  pub cost-begin : 0 + runs steps ≡ cost (taskOf bytes e)
+  unfolding cost
+  cost-begin = omega arith
+
+  inside-fits : (u from : ℕ) → Sound bytes e → runs (inside u (drop from steps)) ≤ 64000
+  inside-fits u from σ = omega (arith, sound-runs bytes e σ, runs-drop from steps, inside-le u (drop from steps))
+
+  module _ (k sum : ℕ) where
+    pub cost-end : e .count ≤ k → sum + runs (drop k steps) ≡ cost (taskOf bytes e) → sum ≡ cost (taskOf bytes e)
+    unfolding runs
+    cost-end l w = omega (arith, ap runs (steps-past bytes e k l))
+
+    pub inside-end : (u w : ℕ) → e .count ≤ k → sum + runs (inside u (drop k steps)) ≡ w → sum ≡ w
+    unfolding runs inside
+    inside-end u w l v = omega (arith, ap (λ (x : List Step). runs (inside u x)) (steps-past bytes e k l))
+
+    module _ (h : Here) (eh : h ≡ here (drop k steps)) where
+      pub inside-here : (u w : ℕ) (b : Bool) → b ≡ isUnlockOf u h → b ≡ true → sum + runs (inside u (drop k steps)) ≡ w → sum ≡ w
+      inside-here u w b eb t v = omega (arith, inside-last u (drop k steps) (ap (isUnlockOf u) (sym eh) ∙ sym eb ∙ t))
+
+      module _ (n : ℕ) (en : n ≡ ticks h) where
+        cost-first : runs (drop k steps) ≡ n + runs (drop (k + 1) steps)
+        cost-first = omega (arith, runs-first (drop k steps), ap runs (drop-drop 1 k steps), en ∙ ap ticks eh)
+
+        pub cost-turn : sum + runs (drop k steps) ≡ cost (taskOf bytes e) → sum + n + runs (drop (k + 1) steps) ≡ cost (taskOf bytes e)
+        cost-turn w = omega (arith, cost-first)
+
+        pub cost-adds : Sound bytes e → sum + runs (drop k steps) ≡ cost (taskOf bytes e) → Fits w64 (sum + n)
+        unfolding cost
+        cost-adds σ w = record { fits = omega (arith, cost-first, sound-runs bytes e σ) }
+
+        module _ (u from : ℕ) (b : Bool) (eb : b ≡ isUnlockOf u h) (f : b ≡ false) (w : sum + runs (inside u (drop k steps)) ≡ runs (inside u (drop from steps))) where
+          pub inside-turn : sum + n + runs (inside u (drop (k + 1) steps)) ≡ runs (inside u (drop from steps))
+          inside-turn = omega (arith, inside-first u (drop k steps) (ap (isUnlockOf u) (sym eh) ∙ sym eb ∙ f), ap (λ (x : List Step). runs (inside u x)) (drop-drop 1 k steps), en ∙ ap ticks eh)
+
+          pub inside-adds : Sound bytes e → Fits w64 (sum + n)
+          inside-adds σ = record { fits = omega (arith, inside-turn, inside-fits u from σ) }
+
+-- the section that begins at a position, by the step there
+section-first : (test : ℕ → Bool) (u : ℕ) (steps : List Step) → here steps ≡ Lock u → sectionLength test steps ≡ (if test u then runs (inside u (drop 1 steps)) else 0)
+unfolding here sectionLength
+section-first test u [] e = absurd (let z : _≡_ {A = ℕ} 0 1 = cc in omega arith)
+section-first test u (run n ∷ steps) e = absurd (let z : _≡_ {A = ℕ} 0 1 = cc in omega arith)
+section-first test u (lock s ∷ steps) e = let z : s ≡ u = cc in rw z refl
+section-first test u (unlock s ∷ steps) e = absurd (let z : _≡_ {A = ℕ} 0 1 = cc in omega arith)
+
+section-none : (test : ℕ → Bool) (steps : List Step) → ((u : ℕ) → here steps ≡ Lock u → ⊥) → 0 ≡ sectionLength test steps
+unfolding here sectionLength
+section-none test [] h = refl
+section-none test (run n ∷ steps) h = refl
+section-none test (lock s ∷ steps) h = absurd (h s refl)
+section-none test (unlock s ∷ steps) h = refl
+
+module _ (test : ℕ → Bool) (bytes : List ℕ) (e : Entry) (k : ℕ) (h : Here) (eh : h ≡ here (drop k (taskOf bytes e .steps))) where
+  pub at-lock : (u r : ℕ) → h ≡ Lock u → r ≡ (if test u then runs (inside u (drop (k + 1) (taskOf bytes e .steps))) else 0) → r ≡ sectionLength test (drop k (taskOf bytes e .steps))
+  at-lock u r x er =
+      er ∙ ap (λ (rest : List Step). if test u then runs (inside u rest) else 0) (sym (drop-drop 1 k (taskOf bytes e .steps)))
+      ∙ sym (section-first test u (drop k (taskOf bytes e .steps)) (sym eh ∙ x))
+
+  pub at-run : (n : ℕ) → h ≡ Run n → 0 ≡ sectionLength test (drop k (taskOf bytes e .steps))
+  at-run n x = section-none test _ (λ u y. let z : _≡_ {A = ℕ} 0 1 = cc in omega arith)
+
+  pub at-unlock : (s : ℕ) → h ≡ Unlock s → 0 ≡ sectionLength test (drop k (taskOf bytes e .steps))
+  at-unlock s x = section-none test _ (λ u y. let z : _≡_ {A = ℕ} 0 1 = cc in omega arith)
+
+  pub at-end : h ≡ End → 0 ≡ sectionLength test (drop k (taskOf bytes e .steps))
+  at-end x = section-none test _ (λ u y. let z : _≡_ {A = ℕ} 0 1 = cc in omega arith)
+
+module _ (cs : List ℕ) (i u : ℕ) where
+  pub low-ceiling : (r x : ℕ) → r ≡ x → getD cs u 0 ≤ i → r ≡ (if atMost cs i u then x else 0)
+  unfolding atMost
+  low-ceiling r x e l = rw (le-leb (getD cs u 0) i l) e
+
+  pub high-ceiling : (x : ℕ) → i < getD cs u 0 → 0 ≡ (if atMost cs i u then x else 0)
+  unfolding atMost
+  high-ceiling x l = rw (lt-leb (getD cs u 0) i l) refl
+
+-- the semaphore of a lock is below 16
+all-drop : (P : Step → Type 0) (k : ℕ) (steps : List Step) → All P steps → All P (drop k steps)
+all-drop P zero steps α = α
+all-drop P (suc k) [] α = tt
+all-drop P (suc k) (x ∷ steps) α = all-drop P k steps (α .1)
+
+lock-first : (u : ℕ) (steps : List Step) → All (StepLimits 16) steps → here steps ≡ Lock u → u < 16
+unfolding here
+lock-first u [] α e = absurd (let z : _≡_ {A = ℕ} 0 1 = cc in omega arith)
+lock-first u (run n ∷ steps) α e = absurd (let z : _≡_ {A = ℕ} 0 1 = cc in omega arith)
+lock-first u (lock s ∷ steps) α e = let z : s ≡ u = cc in omega arith
+lock-first u (unlock s ∷ steps) α e = absurd (let z : _≡_ {A = ℕ} 0 1 = cc in omega arith)
+
+pub lock-below : (bytes : List ℕ) (e : Entry) (k : ℕ) (h : Here) (u : ℕ) → Sound bytes e → h ≡ here (drop k (taskOf bytes e .steps)) → h ≡ Lock u → u < 16
+lock-below bytes e k h u σ eh eu = lock-first u _ (all-drop (StepLimits 16) k (taskOf bytes e .steps) (σ .limits)) (sym eh ∙ eu)
+
+-- the sections of task j that count for task i
+unfoldable pub longestOf : Sheet → (i j : ℕ) → ℕ
+longestOf sheet i j = largest 64 λ k. if i <? j then sectionLength (λ s. ceiling sheet s ≤? i) (drop k (taskAt sheet j .steps)) else 0
+
+section-same : (p q : ℕ → Bool) (steps : List Step) → All (StepLimits 16) steps → ((s : ℕ) → s < 16 → p s ≡ q s) → sectionLength p steps ≡ sectionLength q steps
+unfolding sectionLength
+section-same p q [] α h = refl
+section-same p q (run n ∷ steps) α h = refl
+section-same p q (lock s ∷ steps) α h = rw (h s (α .0)) refl
+section-same p q (unlock s ∷ steps) α h = refl
+
+section-le : (p : ℕ → Bool) (steps : List Step) → sectionLength p steps ≤ runs steps
+unfolding sectionLength runs
+section-le p [] = omega arith
+section-le p (run n ∷ steps) = omega arith
+section-le p (lock s ∷ steps) = go (p s)
+  where
+    go : (b : Bool) → (if b then runs (inside s steps) else 0) ≤ runs steps
+    go true = inside-le s steps
+    go false = omega arith
+section-le p (unlock s ∷ steps) = omega arith
+
+module _ (bytes : List ℕ) (table : Table) (τ : Tabled bytes table) (i : ℕ) where
+  abbrev sheet : Sheet
+  sheet = sheetOf bytes table
+
+  pub bound-begin : 0 ≡ largest (i + 1) (longestOf sheet i)
+  unfolding longestOf
+  bound-begin = sym (largest-none (i + 1) (longestOf sheet i) (λ j l. largest-none 64 _ (λ k m. rw (le-ltb i j (omega arith)) refl)))
+
+  module _ (cs : List ℕ) (ec : cs ≡ row 16 (ceiling sheet)) (j : ℕ) (l : i < j) (e : Entry) (ee : e ≡ entryOf table j) where
+    longest-is : largest 64 (λ k. sectionLength (atMost cs i) (drop k (taskOf bytes e .steps))) ≡ longestOf sheet i j
+    unfolding longestOf atMost
+    longest-is = largest-same 64 _ _ (λ k.
+        section-same (atMost cs i) (λ s. ceiling sheet s ≤? i) (drop k (taskOf bytes e .steps)) (all-drop (StepLimits 16) k _ (sound-from bytes table τ j e ee .limits))
+        (λ s m. ap (λ (x : ℕ). x ≤? i) (ap (λ (x : List ℕ). getD x s 0) ec ∙ row-at 16 (ceiling sheet) 0 s m))
+        ∙ rw (lt-ltb i j l) (ap (λ (x : Task). sectionLength (λ s. ceiling sheet s ≤? i) (drop k (x .steps))) (ap (taskOf bytes) ee ∙ sym (task-at bytes table j))))
+
+    pub bound-turn : (best v r : ℕ) → best ≡ largest j (longestOf sheet i) → v ≡ largest 64 (λ k. sectionLength (atMost cs i) (drop k (taskOf bytes e .steps))) → r ≡ max best v → r ≡ largest (j + 1) (longestOf sheet i)
+    bound-turn best v r eb ev er = largest-turn (longestOf sheet i) j best v r eb (ev ∙ longest-is) er
+
+  pub bound-end : (j best : ℕ) → j ≤ 16 → 16 ≤ j → best ≡ largest j (longestOf sheet i) → best ≡ bound sheet i
+  unfolding bound longestOf
+  bound-end j best l m eb = largest-end (longestOf sheet i) 16 j best l m eb
+
+  bound-limit : bound sheet i ≤ 64000
+  unfolding bound
+  bound-limit = largest-le 16 _ 64000 (λ j. largest-le 64 _ 64000 (λ k. go j k (i <? j)))
+    where
+      go : (j k : ℕ) (b : Bool) → (if b then sectionLength (λ s. ceiling sheet s ≤? i) (drop k (taskAt sheet j .steps)) else 0) ≤ 64000
+      go j k true =
+          let steps = taskAt sheet j .steps in
+          let few = sound-runs bytes (entryOf table j) (sound-from bytes table τ j (entryOf table j) refl) in
+          omega (arith, section-le (λ s. ceiling sheet s ≤? i) (drop k steps), runs-drop k steps, ap (λ (x : Task). runs (x .steps)) (task-at bytes table j))
+      go j k false = omega arith
+
+  pub bound-fits : (b : ℕ) → b ≡ bound sheet i → Fits w16 b
+  bound-fits b e = record { fits = omega (arith, bound-limit) }
+
+-- the arrays of C, of periods and of bounds
+module _ (bytes : List ℕ) (table : Table) where
+  module _ (τ : Tabled bytes table) (i : ℕ) (e : Entry) (ee : e ≡ entryOf table i) (c : ℕ) (ec : c ≡ cost (taskOf bytes e)) where
+    pub cost-fits : Fits w16 c
+    unfolding cost
+    cost-fits = record { fits = omega (arith, sound-runs bytes e (sound-from bytes table τ i e ee)) }
+
+    pub cost-at : c ≡ cost (taskAt (sheetOf bytes table) i)
+    cost-at = ec ∙ ap (λ (x : Entry). cost (taskOf bytes x)) ee ∙ ap cost (sym (task-at bytes table i))
+
+  pub bounds-end : (n : ℕ) (xs : List ℕ) → table .n ≤ n → n ≤ table .n → Filled 0 (bound (sheetOf bytes table)) n xs → xs ≡ byRank 0 bound (sheetOf bytes table)
+  unfolding byRank
+  bounds-end n xs l m φ = filled-ranks 0 _ n xs φ ∙ ap (λ (k : ℕ). row 16 (λ i. if i <? k then bound (sheetOf bytes table) i else 0)) (let z : n ≡ length (sheetOf bytes table .tasks) = omega (arith, tasks-count bytes table) in z)

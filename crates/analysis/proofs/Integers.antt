@@ -1,0 +1,174 @@
+-- Laws of slacks: of a difference of two numbers, of the larger of two, of the largest of many.
+use Prim.Native.Nat.{ℕ, zero, suc, _+_, _-_, _≤_, _<_, max}
+use mathlib.Core.Path.{_≡_, refl, sym, ap, ap₂, _∙_, subst}
+use mathlib.Core.Logic.{⊎-elim}
+use mathlib.Core.Bool.{Bool, true, false}
+use native.Mathlib.Omega.{arith}
+use native.Mathlib.Numerals.{add-one}
+use lib.Dec.{leb}
+use lib.IntN.{ℤ, pos, negsuc, _-ℤ_}
+use lib.Signed.{leZ}
+use borrow.Author.Tests.{lt-ltb, le-ltb, le-leb, lt-leb}
+use Rattle.rules.specs.Words.{if_then_else_}
+use Rattle.rules.specs.Bounds.{larger, largestOf}
+use Rattle.rules.specs.Answers.{signed}
+use Rattle.rules.proofs.Laws.{below}
+use Rattle.analysis.specs.Laxity.{raise, lowered}
+
+-- a difference by its sign
+minus-le : (a b : ℕ) → b ≤ a → pos a -ℤ pos b ≡ pos (a - b)
+minus-le a zero l = ap pos (omega arith)
+minus-le a (suc b) l = rw (le-ltb a (suc b) l) refl
+
+minus-lt : (a b : ℕ) → a < b → pos a -ℤ pos b ≡ negsuc (b - suc a)
+minus-lt a zero l = absurd (omega arith)
+minus-lt a (suc b) l = rw (lt-ltb a (suc b) l) refl
+
+-- both numbers raised by the same
+raised : (t d z : ℕ) → d ≤ t + z → pos (t + z - d) -ℤ pos z ≡ pos t -ℤ pos d
+raised t d z l = ⊎-elim
+    (λ u. minus-lt (t + z - d) z (omega arith) ∙ ap negsuc (let e : z - suc (t + z - d) ≡ d - suc t = omega arith in e) ∙ sym (minus-lt t d u))
+    (λ u. minus-le (t + z - d) z (omega arith) ∙ ap pos (let e : t + z - d - z ≡ t - d = omega arith in e) ∙ sym (minus-le t d u))
+    (below t d)
+
+-- tests of orders that follow from each other
+same-test : (a b c d : ℕ) → (a ≤ b → c ≤ d) → (b < a → d < c) → leb a b ≡ leb c d
+same-test a b c d f g = ⊎-elim (λ u. lt-leb a b u ∙ sym (lt-leb c d (g u))) (λ u. le-leb a b u ∙ sym (le-leb c d (f u))) (below b a)
+
+minus-order : (v w z : ℕ) → leZ (pos v -ℤ pos z) (pos w -ℤ pos z) ≡ leb v w
+minus-order v w z = ⊎-elim
+    (λ u. ⊎-elim
+    (λ x. ap₂ leZ (minus-lt v z u) (minus-lt w z x) ∙ same-test (z - suc w) (z - suc v) v w (λ y. omega arith) (λ y. omega arith))
+    (λ x. ap₂ leZ (minus-lt v z u) (minus-le w z x) ∙ sym (le-leb v w (omega arith)))
+    (below w z))
+    (λ u. ⊎-elim
+    (λ x. ap₂ leZ (minus-le v z u) (minus-lt w z x) ∙ sym (lt-leb v w (omega arith)))
+    (λ x. ap₂ leZ (minus-le v z u) (minus-le w z x) ∙ same-test (v - z) (w - z) v w (λ y. omega arith) (λ y. omega arith))
+    (below w z))
+    (below v z)
+
+larger-minus : (v w z : ℕ) → larger (pos v -ℤ pos z) (pos w -ℤ pos z) ≡ pos (max v w) -ℤ pos z
+unfolding larger
+larger-minus v w z = ⊎-elim
+    (λ u. rw (minus-order v w z, lt-leb v w u) (ap (λ (x : ℕ). pos x -ℤ pos z) (let e : v ≡ max v w = omega arith in e)))
+    (λ u. rw (minus-order v w z, le-leb v w u) (ap (λ (x : ℕ). pos x -ℤ pos z) (let e : w ≡ max v w = omega arith in e)))
+    (below w v)
+
+-- a raised slack, its sign and its size
+pub lowered-slack : (t d v : ℕ) → d ≤ raise → v ≡ t + raise - d → lowered v ≡ pos t -ℤ pos d
+unfolding lowered
+lowered-slack t d v l e = ap (λ (x : ℕ). pos x -ℤ pos raise) e ∙ raised t d raise (omega arith)
+
+pub signed-below : (v : ℕ) → v < raise → record { below = true; size = raise - v } ≡ signed (lowered v)
+unfolding lowered signed
+signed-below v l = sym (ap signed (minus-lt v raise l) ∙ ap (λ (x : ℕ). record { below = true; size = x }) (let e : suc (raise - suc v) ≡ raise - v = omega arith in e))
+
+pub signed-above : (v : ℕ) → raise ≤ v → record { below = false; size = v - raise } ≡ signed (lowered v)
+unfolding lowered signed
+signed-above v l = sym (ap signed (minus-le v raise l))
+
+-- the largest of many: one more, and the end
+module _ (f : ℕ → ℤ) (first : ℤ) where
+  pub largestOf-begin : (v : ℕ) → lowered v ≡ first → lowered v ≡ largestOf 0 first f
+  unfolding largestOf
+  largestOf-begin v e = e
+
+  pub largestOf-turn : (n best v r : ℕ) → lowered best ≡ largestOf n first f → lowered v ≡ f n → r ≡ max best v → lowered r ≡ largestOf (n + 1) first f
+  unfolding largestOf lowered
+  largestOf-turn n best v r eb ev er =
+      ap (λ (x : ℕ). pos x -ℤ pos raise) er ∙ sym (larger-minus best v raise) ∙ ap₂ larger eb ev
+      ∙ ap (λ (k : ℕ). largestOf k first f) (sym (add-one n))
+
+  pub largestOf-end : (m n best : ℕ) → n ≤ m → m ≤ n → lowered best ≡ largestOf n first f → lowered best ≡ largestOf m first f
+  largestOf-end m n best l k e = e ∙ ap (λ (x : ℕ). largestOf x first f) (let z : n ≡ m = omega arith in z)
+
+pub largestOf-same : (n : ℕ) (x y : ℤ) (f g : ℕ → ℤ) → x ≡ y → ((j : ℕ) → j < n → f j ≡ g j) → largestOf n x f ≡ largestOf n y g
+unfolding largestOf
+largestOf-same zero x y f g e h = e
+largestOf-same (suc n) x y f g e h = ap₂ larger (largestOf-same n x y f g e (λ j l. h j (omega arith))) (h n (omega arith))
+
+-- at least -m, and at most m
+abbrev pub AtLeast : (m : ℕ) → ℤ → Type 0
+AtLeast m (pos n) = Unit {0}
+AtLeast m (negsuc n) = n < m
+
+abbrev pub AtMost : (m : ℕ) → ℤ → Type 0
+AtMost m (pos n) = n ≤ m
+AtMost m (negsuc n) = Unit {0}
+
+-- the larger of two is one of them, and at least each
+module _ (m : ℕ) where
+  larger-left : (x y : ℤ) → AtLeast m x → AtLeast m (larger x y)
+  unfolding larger
+  larger-left (pos a) (pos b) p = go (leb a b)
+    where
+      go : (c : Bool) → AtLeast m (if c then pos b else pos a)
+      go true = tt
+      go false = tt
+  larger-left (pos a) (negsuc b) p = tt
+  larger-left (negsuc a) (pos b) p = tt
+  larger-left (negsuc a) (negsuc b) p = ⊎-elim
+      (λ u. rw (lt-leb b a u) p)
+      (λ u. rw (le-leb b a u) (let l : b < m = omega arith in l))
+      (below a b)
+
+  larger-right : (x y : ℤ) → AtLeast m y → AtLeast m (larger x y)
+  unfolding larger
+  larger-right (pos a) (pos b) p = go (leb a b)
+    where
+      go : (c : Bool) → AtLeast m (if c then pos b else pos a)
+      go true = tt
+      go false = tt
+  larger-right (pos a) (negsuc b) p = tt
+  larger-right (negsuc a) (pos b) p = tt
+  larger-right (negsuc a) (negsuc b) p = ⊎-elim
+      (λ u. rw (lt-leb b a u) (let l : a < m = omega arith in l))
+      (λ u. rw (le-leb b a u) p)
+      (below a b)
+
+  larger-both : (x y : ℤ) → AtMost m x → AtMost m y → AtMost m (larger x y)
+  unfolding larger
+  larger-both x y p q = go (leZ x y)
+    where
+      go : (c : Bool) → AtMost m (if c then y else x)
+      go true = q
+      go false = p
+
+  pub largest-at-least : (n : ℕ) (first : ℤ) (f : ℕ → ℤ) (j : ℕ) → j < n → AtLeast m (f j) → AtLeast m (largestOf n first f)
+  unfolding largestOf
+  largest-at-least zero first f j l p = absurd (omega arith)
+  largest-at-least (suc n) first f j l p = ⊎-elim
+      (λ u. larger-left (largestOf n first f) (f n) (largest-at-least n first f j u p))
+      (λ u. larger-right (largestOf n first f) (f n) (subst (λ (x : ℕ). AtLeast m (f x)) (let z : j ≡ n = omega arith in z) p))
+      (below j n)
+
+  pub largest-at-most : (n : ℕ) (first : ℤ) (f : ℕ → ℤ) → AtMost m first → ((j : ℕ) → j < n → AtMost m (f j)) → AtMost m (largestOf n first f)
+  unfolding largestOf
+  largest-at-most zero first f p h = p
+  largest-at-most (suc n) first f p h = larger-both (largestOf n first f) (f n) (largest-at-most n first f p (λ j l. h j (omega arith))) (h n (omega arith))
+
+  pub slack-at-least : (t d : ℕ) → d ≤ t + m → AtLeast m (pos t -ℤ pos d)
+  slack-at-least t d l = ⊎-elim
+      (λ u. subst (AtLeast m) (sym (minus-lt t d u)) (let k : d - suc t < m = omega arith in k))
+      (λ u. subst (AtLeast m) (sym (minus-le t d u)) tt)
+      (below t d)
+
+  pub slack-at-most : (t d : ℕ) → t ≤ m → AtMost m (pos t -ℤ pos d)
+  slack-at-most t d l = ⊎-elim
+      (λ u. subst (AtMost m) (sym (minus-lt t d u)) tt)
+      (λ u. subst (AtMost m) (sym (minus-le t d u)) (let k : t - d ≤ m = omega arith in k))
+      (below t d)
+
+  pub lowered-at-least : (v : ℕ) → AtLeast m (lowered v) → raise ≤ v + m
+  unfolding lowered
+  lowered-at-least v p = ⊎-elim
+      (λ u. let k : raise - suc v < m = subst (AtLeast m) (minus-lt v raise u) p in omega arith)
+      (λ u. omega arith)
+      (below v raise)
+
+  pub lowered-at-most : (v : ℕ) → AtMost m (lowered v) → v ≤ raise + m
+  unfolding lowered
+  lowered-at-most v p = ⊎-elim
+      (λ u. omega arith)
+      (λ u. let k : v - raise ≤ m = subst (AtMost m) (minus-le v raise u) p in omega arith)
+      (below v raise)

@@ -1,0 +1,4 @@
+pub mod Laws
+pub mod Bounds
+pub mod Integers
+pub mod Laxity

@@ -1,0 +1,47 @@
+-- The laxity by the rows of C and of periods and a bound: document 01's, of rows that need not be a sheet's.
+-- Of a sheet's own it is the sheet's laxity (proofs/Laxity.antt, laxity-of-sheet).
+use Prim.Native.Nat.{ℕ, _+_, _*_, _/_, _≤_, _<_}
+use mathlib.Core.List.{List}
+use lib.ListN.{getD}
+use lib.IntN.{ℤ, pos, _-ℤ_}
+use Rattle.rules.specs.Words.{if_then_else_, _<?_, row, total}
+use Rattle.rules.specs.Bounds.{roundedUp, largestOf}
+use Rattle.rules.specs.Answers.{signed}
+use Rattle.rules.specs.declared.Laxity.{Laxity}
+
+-- C of r times (t over r's period, rounded up).
+unfoldable pub demandOf : (costs periods : List ℕ) (t r : ℕ) → ℕ
+demandOf costs periods t r = getD costs r 0 * roundedUp t (getD periods r 0)
+
+module _ (costs periods : List ℕ) (b i : ℕ) where
+  unfoldable pub demandFrom : (t : ℕ) → ℕ
+  demandFrom t = b + total (i + 1) (demandOf costs periods t)
+
+  unfoldable pub slackFrom : (t : ℕ) → ℤ
+  slackFrom t = pos t -ℤ pos (demandFrom t)
+
+  -- The slack at the l-th point of task k, from 0, and the largest of those and of the slack at task i's period.
+  unfoldable pub pointFrom : (k l : ℕ) → ℤ
+  pointFrom k l = slackFrom ((l + 1) * getD periods k 0)
+
+  unfoldable pub largestFrom : (k : ℕ) → ℤ
+  largestFrom k = largestOf (getD periods i 0 / getD periods k 0) (slackFrom (getD periods i 0)) (pointFrom k)
+
+  unfoldable pub laxityFrom : ℤ
+  laxityFrom = largestOf (i + 1) (slackFrom (getD periods i 0)) largestFrom
+
+-- Sixteen laxities, of the first n ranks; zero behind them.
+unfoldable pub laxitiesFrom : (costs periods bounds : List ℕ) (n : ℕ) → List Laxity
+laxitiesFrom costs periods bounds n = row 16 λ i. if i <? n then signed (laxityFrom costs periods (getD bounds i 0) i) else signed (pos 0)
+
+-- The first n of sixteen periods are at least 1.
+pub record Periods (n : ℕ) (periods : List ℕ) : Type 0 where
+  pub few : n ≤ 16
+  pub from : (r : ℕ) → r < n → 1 ≤ getD periods r 0
+
+-- A slack may be negative: the code keeps it raised by 2 ^ 40, which is above every demand.
+abbrev pub raise : ℕ
+raise = 1_099_511_627_776
+
+unfoldable pub lowered : ℕ → ℤ
+lowered v = pos v -ℤ pos raise

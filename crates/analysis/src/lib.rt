@@ -1,0 +1,335 @@
+// C, bounds and laxities of a sheet's tasks, proved equal to rules/specs/Bounds.antt.
+// The laxities are made of three arrays by value (C, periods, bounds), so that one of them can be another than the sheet's.
+use rules::Laxity;
+use table::Entry;
+use table::Here;
+use table::Table;
+ghost use mathlib.Core.Path.{_≡_};
+ghost use Prim.Native.Nat.{_+_, _<_, _≤_, max};
+ghost use lib.ListN.{getD, drop};
+ghost use lib.IntN.{pos};
+ghost use Rattle.rules.specs.Words.{if_then_else_, row, largest};
+ghost use Rattle.rules.specs.Sheet.{taskAt};
+ghost use Rattle.rules.specs.Choice.{ceiling};
+ghost use Rattle.rules.specs.Bounds.{runs, inside, sectionLength, bound, cost, roundedUp, laxity};
+ghost use Rattle.rules.specs.Answers.{byRank, signed};
+ghost use Rattle.table.specs.Table.{entryOf, taskOf, sheetOf, Tabled};
+ghost use Rattle.analysis.specs.Steps.{ticks, isUnlockOf, atMost, Sound};
+ghost use Rattle.analysis.specs.Laxity.{demandFrom, slackFrom, largestFrom, laxityFrom, laxitiesFrom, Periods, raise, lowered};
+
+// The larger of two.
+fn larger(a: u64, b: u64) -> u64
+    ensures { λ r. ⌜ r ≡ max a b ⌝ }
+{
+    if a < b {
+        return b;
+    }
+    a
+}
+
+// The ticks that a step runs.
+fn ticks_of(h: Here) -> u64
+    ensures { λ r. ⌜ r ≡ ticks h ⌝ }
+{
+    match h {
+        Here::Run(n) => n as u64,
+        Here::Lock(_) => 0,
+        Here::Unlock(_) => 0,
+        Here::End => 0,
+    }
+}
+
+// Is a step the unlock of semaphore `u`?
+fn is_unlock_of(u: u16, h: Here) -> bool
+    ensures { λ r. ⌜ r ≡ isUnlockOf u h ⌝ }
+{
+    match h {
+        Here::Run(_) => false,
+        Here::Lock(_) => false,
+        Here::Unlock(v) => v == u,
+        Here::End => false,
+    }
+}
+
+// C is the sum of a task's runs.
+fn cost_of(s: &[u8], e: Entry) -> u64
+    requires { ⌜ Sound (now s) e ⌝ }
+    ensures { λ r. ⌜ r ≡ cost (taskOf (now (s .entry)) e) ⌝ }
+{
+    let count = e.count as usize;
+    let mut sum: u64 = 0;
+    let mut k: usize = 0;
+    while k < count {
+        let h = table::step_at(s, e, k);
+        let n = ticks_of(h);
+        sum += n;
+        k += 1;
+    }
+    sum
+}
+
+// C of each rank; 0 past the last.
+pub fn costs_of(s: &[u8], table: Table) -> [u16; 16]
+    requires { ⌜ Tabled (now s) table ⌝ }
+    ensures { λ r. ⌜ r ≡ row 16 (λ i. cost (taskAt (sheetOf (now (s .entry)) table) i)) ⌝ }
+{
+    let mut costs: [u16; 16] = [0; 16];
+    let mut i: usize = 0;
+    while i < 16 {
+        let e = table::entry_at(table, i);
+        let c = cost_of(s, e);
+        costs[i] = c as u16;
+        i += 1;
+    }
+    costs
+}
+
+// The period of each rank; 0 past the last.
+pub fn periods_of(table: Table) -> [u16; 16]
+    requires { ⌜ table .n ≤ 16 ⌝ }
+    ensures { λ r. ⌜ r ≡ row 16 (λ i. entryOf table i .period) ⌝ }
+{
+    let mut periods: [u16; 16] = [0; 16];
+    let mut i: usize = 0;
+    while i < 16 {
+        let e = table::entry_at(table, i);
+        periods[i] = e.period;
+        i += 1;
+    }
+    periods
+}
+
+// The runs from a position on up to the unlock of semaphore `u`.
+fn inside_length(s: &[u8], e: Entry, u: u16, from: usize) -> u64
+    requires { ⌜ Sound (now s) e ⌝ }
+    ensures { λ r. ⌜ r ≡ runs (inside u (drop from (taskOf (now (s .entry)) e .steps))) ⌝ }
+{
+    let count = e.count as usize;
+    let mut sum: u64 = 0;
+    let mut k = from;
+    while k < count {
+        let h = table::step_at(s, e, k);
+        if is_unlock_of(u, h) {
+            return sum;
+        }
+        let n = ticks_of(h);
+        sum += n;
+        k += 1;
+    }
+    sum
+}
+
+// The length of a section of semaphore `u` from behind its lock on, where the ceiling is at most i; else 0.
+fn length_behind(s: &[u8], e: Entry, cs: [u8; 16], i: usize, u: u16, from: usize) -> u64
+    requires { ⌜ (u < 16) × Sound (now s) e ⌝ }
+    ensures { λ r. ⌜ r ≡ (if atMost cs i u then runs (inside u (drop from (taskOf (now (s .entry)) e .steps))) else 0) ⌝ }
+{
+    let at = u as usize;
+    let c = cs[at] as usize;
+    if c <= i {
+        return inside_length(s, e, u, from);
+    }
+    0
+}
+
+// The length of the section that begins at a position, where its semaphore has a ceiling of at most i; else 0.
+fn section_length(s: &[u8], e: Entry, cs: [u8; 16], i: usize, k: usize) -> u64
+    requires { ⌜ (k < 64) × Sound (now s) e ⌝ }
+    ensures { λ r. ⌜ r ≡ sectionLength (atMost cs i) (drop k (taskOf (now (s .entry)) e .steps)) ⌝ }
+{
+    let h = table::step_at(s, e, k);
+    match h {
+        Here::Run(_) => 0,
+        Here::Lock(u) => length_behind(s, e, cs, i, u, k + 1),
+        Here::Unlock(_) => 0,
+        Here::End => 0,
+    }
+}
+
+// The longest of a task's sections whose semaphores have a ceiling of at most i; 0 if none.
+fn longest_section(s: &[u8], e: Entry, cs: [u8; 16], i: usize) -> u64
+    requires { ⌜ Sound (now s) e ⌝ }
+    ensures { λ r. ⌜ r ≡ largest 64 (λ k. sectionLength (atMost cs i) (drop k (taskOf (now (s .entry)) e .steps))) ⌝ }
+{
+    let mut longest: u64 = 0;
+    let mut k: usize = 0;
+    while k < 64 {
+        let length = section_length(s, e, cs, i, k);
+        longest = larger(longest, length);
+        k += 1;
+    }
+    longest
+}
+
+// The bound B of task i: over the tasks of greater rank.
+fn bound_of(s: &[u8], table: Table, cs: [u8; 16], i: usize) -> u64
+    requires { ⌜ (i < 16) × Tabled (now s) table ⌝ }
+    requires { ⌜ cs ≡ row 16 (ceiling (sheetOf (now s) table)) ⌝ }
+    ensures { λ r. ⌜ r ≡ bound (sheetOf (now (s .entry)) table) i ⌝ }
+{
+    let mut longest: u64 = 0;
+    let mut j: usize = i + 1;
+    while j < 16 {
+        let e = table::entry_at(table, j);
+        let length = longest_section(s, e, cs, i);
+        longest = larger(longest, length);
+        j += 1;
+    }
+    longest
+}
+
+// The bound of each task; 0 behind them.
+pub fn bounds_of(s: &[u8], table: Table, cs: [u8; 16]) -> [u16; 16]
+    requires { ⌜ Tabled (now s) table ⌝ }
+    requires { ⌜ cs ≡ row 16 (ceiling (sheetOf (now s) table)) ⌝ }
+    ensures { λ r. ⌜ r ≡ byRank 0 bound (sheetOf (now (s .entry)) table) ⌝ }
+{
+    let n = table.n as usize;
+    let mut bounds: [u16; 16] = [0; 16];
+    let mut i: usize = 0;
+    while i < n {
+        let b = bound_of(s, table, cs, i);
+        bounds[i] = b as u16;
+        i += 1;
+    }
+    bounds
+}
+
+// A slack may be negative: it is kept raised by 2 ^ 40, which is above every demand.
+const RAISE: u64 = 1_099_511_627_776;
+
+// t over a period, rounded up.
+fn rounded_up(t: u32, period: u32) -> u32
+    requires { ⌜ (1 ≤ period) × (period < 65536) × (t < 65536) ⌝ }
+    ensures { λ r. ⌜ (r ≡ roundedUp t period) × (r < 131072) ⌝ }
+{
+    (t + (period - 1)) / period
+}
+
+// What task i demands up to t, with the bound b.
+fn demand_at(costs: [u16; 16], periods: [u16; 16], b: u16, i: usize, t: u32) -> u64
+    requires { ⌜ Periods (i + 1) periods × (t < 65536) ⌝ }
+    ensures { λ r. ⌜ (r ≡ demandFrom costs periods b i t) × (r ≤ raise) ⌝ }
+{
+    let mut sum = b as u64;
+    let mut r: usize = 0;
+    while r <= i {
+        let times = rounded_up(t, periods[r] as u32);
+        sum += (costs[r] as u64) * (times as u64);
+        r += 1;
+    }
+    sum
+}
+
+// t minus that.
+fn slack_at(costs: [u16; 16], periods: [u16; 16], b: u16, i: usize, t: u32) -> u64
+    requires { ⌜ Periods (i + 1) periods × (t < 65536) ⌝ }
+    ensures { λ r. ⌜ lowered r ≡ slackFrom costs periods b i t ⌝ }
+{
+    let demand = demand_at(costs, periods, b, i, t);
+    (t as u64) + RAISE - demand
+}
+
+// The largest slack at the points of task k and at task i's period, where it is `first`.
+fn largest_of_rank(
+    costs: [u16; 16],
+    periods: [u16; 16],
+    b: u16,
+    i: usize,
+    k: usize,
+    first: u64,
+) -> u64
+    requires { ⌜ Periods (i + 1) periods × (k ≤ i) × (lowered first ≡ slackFrom costs periods b i (getD periods i 0)) ⌝ }
+    ensures { λ r. ⌜ lowered r ≡ largestFrom costs periods b i k ⌝ }
+{
+    let last = periods[i] as u32;
+    let period = periods[k] as u32;
+    let points = last / period;
+    let mut best = first;
+    let mut l: u32 = 0;
+    while l < points {
+        let slack = slack_at(costs, periods, b, i, (l + 1) * period);
+        best = larger(best, slack);
+        l += 1;
+    }
+    best
+}
+
+// The largest over the points of each task up to i.
+fn largest_slack(costs: [u16; 16], periods: [u16; 16], b: u16, i: usize) -> u64
+    requires { ⌜ Periods (i + 1) periods ⌝ }
+    ensures { λ r. ⌜ lowered r ≡ laxityFrom costs periods b i ⌝ }
+{
+    let last = periods[i] as u32;
+    let first = slack_at(costs, periods, b, i, last);
+    let mut best = first;
+    let mut k: usize = 0;
+    while k <= i {
+        let more = largest_of_rank(costs, periods, b, i, k, first);
+        best = larger(best, more);
+        k += 1;
+    }
+    best
+}
+
+// A raised slack as its sign and its size.
+fn signed_of(v: u64) -> Laxity
+    requires { ⌜ (raise ≤ v + 4_294_967_295) × (v ≤ raise + 4_294_967_295) ⌝ }
+    ensures { λ r. ⌜ r ≡ signed (lowered v) ⌝ }
+{
+    if v < RAISE {
+        return Laxity {
+            below: true,
+            size: (RAISE - v) as u32,
+        };
+    }
+    Laxity {
+        below: false,
+        size: (v - RAISE) as u32,
+    }
+}
+
+// The laxity of task i from the C and periods of the ranks up to it and its bound.
+pub fn laxity_from(costs: [u16; 16], periods: [u16; 16], b: u16, i: usize) -> Laxity
+    requires { ⌜ Periods (i + 1) periods ⌝ }
+    ensures { λ r. ⌜ r ≡ signed (laxityFrom costs periods b i) ⌝ }
+{
+    let v = largest_slack(costs, periods, b, i);
+    signed_of(v)
+}
+
+// The laxity of each of n ranks from their C, periods and bounds; zero behind them.
+pub fn laxities_from(
+    costs: [u16; 16],
+    periods: [u16; 16],
+    bounds: [u16; 16],
+    n: usize,
+) -> [Laxity; 16]
+    requires { ⌜ Periods n periods ⌝ }
+    ensures { λ r. ⌜ r ≡ laxitiesFrom costs periods bounds n ⌝ }
+{
+    let zero = Laxity {
+        below: false,
+        size: 0,
+    };
+    let mut laxities = [zero; 16];
+    let mut i: usize = 0;
+    while i < n {
+        let x = laxity_from(costs, periods, bounds[i], i);
+        laxities[i] = x;
+        i += 1;
+    }
+    laxities
+}
+
+// The laxity of each task; zero behind them.
+pub fn laxities_of(s: &[u8], table: Table, cs: [u8; 16]) -> [Laxity; 16]
+    requires { ⌜ Tabled (now s) table ⌝ }
+    requires { ⌜ cs ≡ row 16 (ceiling (sheetOf (now s) table)) ⌝ }
+    ensures { λ r. ⌜ r ≡ byRank (signed (pos 0)) (λ sheet i. signed (laxity sheet i)) (sheetOf (now (s .entry)) table) ⌝ }
+{
+    let costs = costs_of(s, table);
+    let periods = periods_of(table);
+    let bounds = bounds_of(s, table, cs);
+    laxities_from(costs, periods, bounds, table.n as usize)
+}

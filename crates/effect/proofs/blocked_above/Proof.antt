@@ -1,0 +1,93 @@
+use Rattle.rules.specs.Record.{recordAt}
+use Rattle.effect.proofs.Laws.{changed-none, blocked-here, blocked-yes, blocked-more, blocked-no}
+use borrow.Author.Needs.{needs}
+use native.Mathlib.Omega.{arith}
+use mathlib.Core.Path.{_≡_, _∙_, refl, ap, sym}
+use mathlib.Core.Logic.{⊎-elim}
+use lib.ListN.{length-map}
+use Prim.Native.Nat.{ℕ, _≤_, _-_}
+use Rattle.effect.specs.Effect.{withTasks, eachBlocked, blockedOnce}
+use Rattle.effect.proofs.blocked_above.Statement.{statement}
+use Rattle.effect.proofs.blocked_above.Tie as tie
+use Rattle.effect.proofs.blocked_above.Reads as reads
+use Rattle.effect.proofs.blocked_above.Lts as lts
+use Rattle.effect.proofs.blocked_up.Reads as blocked-up-reads
+
+abbrev Inv-loop : tie.InvT-loop
+Inv-loop x next₀ i₀ next i = (i ≤ x) × (next ≡ withTasks next₀ (eachBlocked i (next₀ .tasks)))
+
+abbrev μ-loop : tie.MeasureT-loop
+μ-loop x next₀ i₀ next i = x - i
+
+-- src/lib.rt:284:5
+loop-holds : tie.Need-loop-holds Inv-loop μ-loop
+loop-holds c = (omega arith, ap (withTasks (c .args .st)) (changed-none (λ i r. blockedOnce r) (c .args .st .tasks) (sym (length-map (c .args .st .tasks) _) ∙ c .good .1 .0 .1 .1 .1 .1 .1 .0 .1 .0 .1)))
+
+-- src/lib.rt:285:17
+mul-r : tie.Need-mul-r Inv-loop μ-loop
+mul-r c = omega arith
+
+-- src/lib.rt:285:17
+element-copy-out-r : tie.Need-element-copy-out-r Inv-loop μ-loop
+element-copy-out-r c = omega arith
+
+-- src/lib.rt:288:17
+blocked-up-requires : tie.Need-blocked-up-requires Inv-loop μ-loop
+unfolding recordAt
+blocked-up-requires c κs =
+    let b = c .before .before .before .before .before in
+    let l = c .before .before .before .before .loop in
+    rw (blocked-here (b .args .st) (l .next) (l .i) (l .inv .1) (omega arith)) (b .pre .1 (l .i) (omega arith) .blocked)
+
+-- src/lib.rt:289:13
+mul-t14 : tie.Need-mul-t14 Inv-loop μ-loop
+mul-t14 c = omega arith
+
+-- src/lib.rt:289:13
+element-set-from-next : tie.Need-element-set-from-next Inv-loop μ-loop
+element-set-from-next c = omega arith
+
+-- src/lib.rt:294:9
+add-i : tie.Need-add-i Inv-loop μ-loop
+add-i c = omega arith
+
+-- src/lib.rt:284:5
+loop-less : tie.Need-loop-less Inv-loop μ-loop
+loop-less c = omega arith
+
+-- src/lib.rt:284:5
+loop-again : tie.Need-loop-again Inv-loop μ-loop
+unfolding recordAt
+loop-again c =
+    let b = c .before .before .before .before .before in
+    let l = c .before .before .before .before .loop in (
+      omega arith,
+      ⊎-elim
+          (λ w. w .2 ∙ blocked-more (b .args .st) (l .next) (l .i) (l .inv .1) (omega arith) _ (blocked-yes (recordAt (l .next .tasks) (l .i)) (w .0 .taken) (w .1 .result) (w .1 .ensures)))
+          (λ w. w .1 ∙ blocked-no (b .args .st) (l .next) (l .i) (l .inv .1) (omega arith) (w .0 .left))
+          (c .if1 .came),
+    )
+
+-- src/lib.rt:277:1
+returns : tie.Need-returns Inv-loop μ-loop
+returns c =
+    let a = c .before .before .args in
+    let e : c .before .loop .i ≡ a .x = omega arith in
+    c .before .loop .inv .1 ∙ ap (λ (k : ℕ). withTasks (a .st) (eachBlocked k (a .st .tasks))) e
+
+pub blocked-above-spec : {M : Type 1} → statement M
+blocked-above-spec =
+    tie.close
+    (tie.spec
+    Inv-loop
+    μ-loop
+    loop-holds
+    mul-r
+    element-copy-out-r
+    blocked-up-requires
+    mul-t14
+    element-set-from-next
+    add-i
+    loop-less
+    loop-again
+    returns)

@@ -1,0 +1,350 @@
+// What a tick does apart from the choice of the runner: the releases (rule 1), the runner's tick (rules 5 and 6) and the
+// tick's end (rule 7). Each contract names the definition of rules/specs/Tick.antt that the function is equal to.
+use rules::Counts;
+use rules::Job;
+use rules::State;
+use rules::TaskRecord;
+use table::Entry;
+use table::Here;
+use table::Table;
+ghost use mathlib.Core.Path.{_≡_};
+ghost use mathlib.Core.List.{List};
+ghost use mathlib.Core.Bool.{true};
+ghost use Prim.Native.Nat.{ℕ, _+_, _-_, _<_, _≤_, max};
+ghost use lib.ListN.{take, drop};
+ghost use Rattle.rules.specs.Words.{if_then_else_, _=?_, any, leading};
+ghost use Rattle.rules.specs.Sheet.{isLock, isUnlock};
+ghost use Rattle.rules.specs.Choice.{full, job};
+ghost use Rattle.rules.specs.Tick.{releasesUp, missesUp, ranUp, blockedUp, completionsUp, releasesAt, released, afterReleases, leftOfRun, nextRun, advanced, spent, afterRunner, closed};
+ghost use Rattle.table.specs.Table.{taskOf, sheetOf, Lies, Tabled};
+ghost use Rattle.effect.specs.Effect.{withTasks, runnerOf, CountsBelow, AllBelow, eachBlocked};
+
+// Counts that have risen by one.
+fn releases_up(c: Counts) -> Counts
+    requires { ⌜ c .releases < 65535 ⌝ }
+    ensures { λ r. ⌜ r ≡ releasesUp c ⌝ }
+{
+    let mut d = c;
+    d.releases = c.releases + 1;
+    d
+}
+
+fn misses_up(c: Counts) -> Counts
+    requires { ⌜ c .misses < 65535 ⌝ }
+    ensures { λ r. ⌜ r ≡ missesUp c ⌝ }
+{
+    let mut d = c;
+    d.misses = c.misses + 1;
+    d
+}
+
+fn ran_up(c: Counts) -> Counts
+    requires { ⌜ c .ran < 65535 ⌝ }
+    ensures { λ r. ⌜ r ≡ ranUp c ⌝ }
+{
+    let mut d = c;
+    d.ran = c.ran + 1;
+    d
+}
+
+fn blocked_up(c: Counts) -> Counts
+    requires { ⌜ c .blocked < 65535 ⌝ }
+    ensures { λ r. ⌜ r ≡ blockedUp c ⌝ }
+{
+    let mut d = c;
+    d.blocked = c.blocked + 1;
+    d
+}
+
+fn larger(a: u16, b: u16) -> u16
+    ensures { λ r. ⌜ r ≡ max a b ⌝ }
+{
+    if a < b {
+        return b;
+    }
+    a
+}
+
+fn completions_up(response: u16, c: Counts) -> Counts
+    requires { ⌜ c .completions < 65535 ⌝ }
+    ensures { λ r. ⌜ r ≡ completionsUp response c ⌝ }
+{
+    let mut d = c;
+    d.completions = c.completions + 1;
+    d.worst = larger(c.worst, response);
+    d
+}
+
+// Rule 1: whether a task, whatever its steps, has a release at t.
+fn releases_at(t: u16, e: Entry) -> bool
+    requires { ⌜ 1 ≤ e .period ⌝ }
+    ensures { λ r. ⌜ ((bytes : List ℕ) → r ≡ releasesAt t (taskOf bytes e)) ⌝ }
+{
+    if t < e.offset {
+        return false;
+    }
+    (t - e.offset) % e.period == 0
+}
+
+// The ticks left on coming to a position: a run's full length, else 0.
+fn full_at(s: &[u8], e: Entry, p: usize) -> u16
+    requires { ⌜ Lies (now s) e ⌝ }
+    ensures { λ r. ⌜ r ≡ full (drop p (taskOf (now (s .entry)) e .steps)) ⌝ }
+{
+    let h = table::step_at(s, e, p);
+    match h {
+        Here::Run(n) => n,
+        Here::Lock(_) => 0,
+        Here::Unlock(_) => 0,
+        Here::End => 0,
+    }
+}
+
+// The record of a task that has a release at t.
+fn released(s: &[u8], e: Entry, t: u16, r: TaskRecord) -> TaskRecord
+    requires { ⌜ Lies (now s) e ⌝ }
+    requires { ⌜ CountsBelow 65535 (r .counts) ⌝ }
+    requires { ⌜ releasesAt t (taskOf (now s) e) ≡ true ⌝ }
+    ensures { λ q. ⌜ q ≡ released t (taskOf (now (s .entry)) e) r ⌝ }
+{
+    let j = r.job;
+    let c = releases_up(r.counts);
+    if j.pending {
+        let d = misses_up(c);
+        return TaskRecord { job: j, counts: d };
+    }
+    let left = full_at(s, e, 0);
+    let started = Job {
+        pending: true,
+        position: 0,
+        left: left,
+        release: t,
+    };
+    TaskRecord {
+        job: started,
+        counts: c,
+    }
+}
+
+// The state after the releases of its tick. Records at n and above are not looked at.
+pub fn after_releases(s: &[u8], table: Table, st: State) -> State
+    requires { ⌜ Tabled (now s) table ⌝ }
+    requires { ⌜ AllBelow 65535 (st .tasks) ⌝ }
+    ensures { λ r. ⌜ r ≡ withTasks st (afterReleases (sheetOf (now (s .entry)) table) st) ⌝ }
+{
+    let mut next = st;
+    let t = st.t;
+    let n = table.n as usize;
+    let mut i: usize = 0;
+    while i < n {
+        let e = table.entries[i];
+        if releases_at(t, e) {
+            let r = next.tasks[i];
+            let q = released(s, e, t, r);
+            next.tasks[i] = q;
+        }
+        i += 1;
+    }
+    next
+}
+
+// Whether a lock stands at a position.
+fn at_lock(s: &[u8], e: Entry, p: usize) -> bool
+    requires { ⌜ Lies (now s) e ⌝ }
+    ensures { λ r. ⌜ r ≡ any isLock (take 1 (drop p (taskOf (now (s .entry)) e .steps))) ⌝ }
+{
+    let h = table::step_at(s, e, p);
+    match h {
+        Here::Run(_) => false,
+        Here::Lock(_) => true,
+        Here::Unlock(_) => false,
+        Here::End => false,
+    }
+}
+
+// Past the locks that stand from a position on.
+fn past_locks(s: &[u8], e: Entry, from: usize) -> usize
+    requires { ⌜ Lies (now s) e ⌝ }
+    ensures { λ r. ⌜ r ≡ from + leading isLock (drop from (taskOf (now (s .entry)) e .steps)) ⌝ }
+{
+    let mut p = from;
+    while at_lock(s, e, p) {
+        p += 1;
+    }
+    p
+}
+
+// Whether an unlock stands at a position.
+fn at_unlock(s: &[u8], e: Entry, p: usize) -> bool
+    requires { ⌜ Lies (now s) e ⌝ }
+    ensures { λ r. ⌜ r ≡ any isUnlock (take 1 (drop p (taskOf (now (s .entry)) e .steps))) ⌝ }
+{
+    let h = table::step_at(s, e, p);
+    match h {
+        Here::Run(_) => false,
+        Here::Lock(_) => false,
+        Here::Unlock(_) => true,
+        Here::End => false,
+    }
+}
+
+// Past the unlocks that stand from a position on.
+fn past_unlocks(s: &[u8], e: Entry, from: usize) -> usize
+    requires { ⌜ Lies (now s) e ⌝ }
+    ensures { λ r. ⌜ r ≡ from + leading isUnlock (drop from (taskOf (now (s .entry)) e .steps)) ⌝ }
+{
+    let mut p = from;
+    while at_unlock(s, e, p) {
+        p += 1;
+    }
+    p
+}
+
+// Rule 5: the ticks left of the next run, which stands at p.
+fn left_of_run(s: &[u8], e: Entry, j: Job, p: usize) -> u16
+    requires { ⌜ Lies (now s) e ⌝ }
+    requires { ⌜ p ≡ nextRun (taskOf (now s) e) j ⌝ }
+    ensures { λ r. ⌜ r ≡ leftOfRun (taskOf (now (s .entry)) e) j ⌝ }
+{
+    let from = j.position as usize;
+    if p == from {
+        return j.left;
+    }
+    full_at(s, e, p)
+}
+
+// The ticks from a release to the end of tick t.
+fn response(t: u16, release: u16) -> u16
+    requires { ⌜ t < 65535 ⌝ }
+    ensures { λ r. ⌜ r ≡ t + 1 - release ⌝ }
+{
+    if t + 1 < release {
+        return 0;
+    }
+    t + 1 - release
+}
+
+// The record of the job that runs.
+fn advanced(s: &[u8], e: Entry, t: u16, r: TaskRecord) -> TaskRecord
+    requires { ⌜ Lies (now s) e ⌝ }
+    requires { ⌜ CountsBelow 65535 (r .counts) ⌝ }
+    requires { ⌜ t < 65535 ⌝ }
+    ensures { λ q. ⌜ q ≡ advanced t (taskOf (now (s .entry)) e) r ⌝ }
+{
+    let j = r.job;
+    let c = r.counts;
+    let p = past_locks(s, e, j.position as usize);
+    let left = left_of_run(s, e, j, p);
+    if 1 < left {
+        let going_on = Job {
+            pending: true,
+            position: p as u8,
+            left: left - 1,
+            release: j.release,
+        };
+        return TaskRecord {
+            job: going_on,
+            counts: c,
+        };
+    }
+    let next = past_unlocks(s, e, p + 1);
+    if next < e.count as usize {
+        let f = full_at(s, e, next);
+        let further = Job {
+            pending: true,
+            position: next as u8,
+            left: f,
+            release: j.release,
+        };
+        return TaskRecord {
+            job: further,
+            counts: c,
+        };
+    }
+    let d = completions_up(response(t, j.release), c);
+    let no_job = Job {
+        pending: false,
+        position: 0,
+        left: 0,
+        release: 0,
+    };
+    TaskRecord {
+        job: no_job,
+        counts: d,
+    }
+}
+
+// Rule 6, first half: the runner's record, with its ticks run.
+fn ran(s: &[u8], e: Entry, t: u16, i: usize, r: TaskRecord) -> TaskRecord
+    requires { ⌜ Lies (now s) e ⌝ }
+    requires { ⌜ CountsBelow 65535 (r .counts) ⌝ }
+    requires { ⌜ t < 65535 ⌝ }
+    ensures { λ q. ⌜ q ≡ spent (job i) t i (taskOf (now (s .entry)) e) r ⌝ }
+{
+    let a = advanced(s, e, t, r);
+    let j = a.job;
+    let c = ran_up(a.counts);
+    TaskRecord { job: j, counts: c }
+}
+
+// Rule 6, second half: the pending jobs of smaller rank than the runner are blocked for this tick.
+fn blocked_above(x: usize, st: State) -> State
+    requires { ⌜ x < 16 ⌝ }
+    requires { ⌜ AllBelow 65535 (st .tasks) ⌝ }
+    ensures { λ r. ⌜ r ≡ withTasks st (eachBlocked x (st .tasks)) ⌝ }
+{
+    let mut next = st;
+    let mut i: usize = 0;
+    while i < x {
+        let r = next.tasks[i];
+        let j = r.job;
+        if j.pending {
+            let c = blocked_up(r.counts);
+            next.tasks[i] = TaskRecord { job: j, counts: c };
+        }
+        i += 1;
+    }
+    next
+}
+
+// The state after the runner's tick; 254 and 255 leave every record. Records behind the runner's are not looked at.
+pub fn after_runner(s: &[u8], table: Table, x: u8, st: State) -> State
+    requires { ⌜ Tabled (now s) table ⌝ }
+    requires { ⌜ AllBelow 65535 (st .tasks) ⌝ }
+    requires { ⌜ st .t < 65535 ⌝ }
+    ensures { λ r. ⌜ r ≡ withTasks st (afterRunner (runnerOf x) (sheetOf (now (s .entry)) table) (st .t) (st .tasks)) ⌝ }
+{
+    if 16 <= x {
+        return st;
+    }
+    let i = x as usize;
+    let e = table::entry_at(table, i);
+    let mut next = blocked_above(i, st);
+    let r = next.tasks[i];
+    let q = ran(s, e, st.t, i, r);
+    next.tasks[i] = q;
+    next
+}
+
+fn switches_after(switches: u16, last: u8, x: u8) -> u16
+    requires { ⌜ switches < 65535 ⌝ }
+    ensures { λ r. ⌜ r ≡ (if x =? last then switches else switches + 1) ⌝ }
+{
+    if x == last {
+        return switches;
+    }
+    switches + 1
+}
+
+// Rule 7: the state at the end of its tick.
+pub fn closed(x: u8, st: State) -> State
+    requires { ⌜ st .t < 65535 ⌝ }
+    requires { ⌜ st .switches < 65535 ⌝ }
+    ensures { λ r. ⌜ r ≡ closed st x (st .tasks) ⌝ }
+{
+    let mut next = st;
+    next.switches = switches_after(st.switches, st.last, x);
+    next.last = x;
+    next.t = st.t + 1;
+    next
+}

@@ -1,0 +1,87 @@
+// One tick of a possible state, and a whole run from the start.
+use rules::Counts;
+use rules::Job;
+use rules::State;
+use rules::TaskRecord;
+use table::Table;
+ghost use mathlib.Core.Path.{_≡_};
+ghost use mathlib.Core.Bool.{true};
+ghost use Prim.Native.Nat.{_<_, _≤_};
+ghost use lib.ListN.{length};
+ghost use Rattle.rules.specs.Words.{row};
+ghost use Rattle.rules.specs.Record.{blank, start, possible};
+ghost use Rattle.rules.specs.Choice.{ceiling};
+ghost use Rattle.rules.specs.Tick.{tick};
+ghost use Rattle.rules.specs.Run.{after, written};
+ghost use Rattle.table.specs.Table.{sheetOf, Tabled};
+
+// One tick: the releases, the choice of the runner, and what is done with it.
+pub fn tick_of(s: &[u8], table: Table, cs: [u8; 16], st: State) -> State
+    requires { ⌜ Tabled (now s) table ⌝ }
+    requires { ⌜ cs ≡ row 16 (ceiling (sheetOf (now s) table)) ⌝ }
+    requires { ⌜ possible (sheetOf (now s) table) st ≡ true ⌝ }
+    requires { ⌜ st .t < 60000 ⌝ }
+    ensures { λ r. ⌜ r ≡ tick (sheetOf (now (s .entry)) table) st ⌝ }
+{
+    let a = effect::after_releases(s, table, st);
+    let x = choice::runner_of(s, table, cs, a);
+    let b = effect::after_runner(s, table, x, a);
+    effect::closed(x, b)
+}
+
+fn blank_record() -> TaskRecord
+    ensures { λ r. ⌜ r ≡ blank ⌝ }
+{
+    let no_job = Job {
+        pending: false,
+        position: 0,
+        left: 0,
+        release: 0,
+    };
+    let no_counts = Counts {
+        releases: 0,
+        completions: 0,
+        misses: 0,
+        ran: 0,
+        blocked: 0,
+        worst: 0,
+    };
+    TaskRecord {
+        job: no_job,
+        counts: no_counts,
+    }
+}
+
+// At the start everything is zero, nobody is pending, and the last runner is 255.
+fn start_state() -> State
+    ensures { λ r. ⌜ r ≡ start ⌝ }
+{
+    let z = blank_record();
+    State {
+        t: 0,
+        switches: 0,
+        last: 255,
+        tasks: [z; 16],
+    }
+}
+
+// A whole run of h ticks from the start, one runner byte per tick into the first h bytes of the trace; later bytes stay.
+pub fn run_of(s: &[u8], table: Table, cs: [u8; 16], h: u16, trace: &mut [u8]) -> State
+    requires { ⌜ Tabled (now s) table ⌝ }
+    requires { ⌜ cs ≡ row 16 (ceiling (sheetOf (now s) table)) ⌝ }
+    requires { ⌜ h ≤ 60000 ⌝ }
+    requires { ⌜ h ≤ length (now trace) ⌝ }
+    ensures { λ r. ⌜ r ≡ after h (sheetOf (now (s .entry)) table) start ⌝ }
+    ensures { λ r. ⌜ now (trace .exit) ≡ written h (sheetOf (now (s .entry)) table) start (now (trace .entry)) ⌝ }
+{
+    let end = h as usize;
+    let mut st = start_state();
+    let mut k: usize = 0;
+    while k < end {
+        let next = tick_of(s, table, cs, st);
+        trace[k] = next.last;
+        st = next;
+        k += 1;
+    }
+    st
+}
