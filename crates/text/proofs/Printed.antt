@@ -2,14 +2,13 @@
 use Prim.Native.Nat.{ℕ, zero, suc, _≤_, _<_}
 use mathlib.Core.Path.{_≡_, refl, sym, ap, ap₂, _∙_}
 use mathlib.Core.Logic.{⊎-elim}
-use mathlib.Core.List.{List, [], _∷_, _++_, flatMap}
-use mathlib.Core.Bool.{Bool, true, false}
+use mathlib.Core.List.{List, _++_, flatMap}
 use native.Mathlib.Omega.{arith}
 use lib.ListN.{length, getD, take, drop, replicate, length-replicate}
 use lib.Seq.{take-all, take-at}
 use borrow.Author.Tests.{ltb-false, lt-ltb, le-ltb}
 use lib.IntN.{pos}
-use Rattle.rules.specs.Words.{if_then_else_, _<?_, row}
+use Rattle.rules.specs.Words.{row}
 use Rattle.rules.specs.Sheet.{Sheet}
 use Rattle.rules.specs.Reading.{Reading, read, refused, refusal, word, _>>=_, refuse_of_at_when_, readSheet}
 use Rattle.rules.specs.Record.{start, recordAt}
@@ -23,7 +22,7 @@ use Rattle.rules.specs.declared.Bounds.{Bounds}
 use Rattle.rules.specs.declared.Laxities.{Laxities}
 use Rattle.rules.specs.declared.Ran.{Ran}
 use Rattle.rules.proofs.Laws.{below, length-row, row-at}
-use Rattle.rules.proofs.Reading.{both-read, passed, got, sheet-few}
+use Rattle.rules.proofs.Reading.{both-read, passed, sheet-few}
 use Rattle.text.specs.Buffer.{boundAt, laxityAt}
 use Rattle.text.specs.Text.{headLine, traceLine, taskLine, taskLines, report, refusalLine, printedRun, printed}
 use Rattle.text.proofs.Put.{flatMap-more}

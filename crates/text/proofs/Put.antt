@@ -1,5 +1,5 @@
 -- Laws of texts in a buffer: no text, one byte, one text behind another.
-use Prim.Native.Nat.{ℕ, suc, _+_, _/_, _≤_, _<_}
+use Prim.Native.Nat.{ℕ, _+_, _/_, _≤_, _<_}
 use mathlib.Core.Path.{_≡_, refl, sym, ap, ap₂, _∙_}
 use mathlib.Core.List.{List, [], _∷_, _++_, append-assoc, append-nil, flatMap}
 use mathlib.Core.Bool.{true, false}
@@ -7,7 +7,7 @@ use borrow.Author.Tests.{eq-eqb, ne-eqb}
 use native.Mathlib.Omega.{arith}
 use native.Mathlib.Numerals.{add-one}
 use lib.ListN.{length, take, drop, set, getD, length-append}
-use lib.Seq.{length-take-le, take-at, drop-at, drop-drop, sets-eq, length-sets, take-suc, take-all, append-snoc, drop-append-add, drop-append-le}
+use lib.Seq.{length-take-le, take-at, drop-at, drop-drop, sets-eq, length-sets, take-suc, take-all}
 use Rattle.text.specs.Buffer.{Put}
 use Rattle.text.specs.Text.{ascii, digit, decimal, signedDecimal, taskLine, taskLines, tickWord}
 use Rattle.rules.specs.Words.{row}

@@ -1,11 +1,10 @@
 -- THE PRINTED FORM: what the printing program writes for the bytes that it reads.
 use Prim.Native.Nat.{ℕ, zero, suc, _+_, _/_, _%_}
-use Prim.Native.Char.{Char, code}
+use Prim.Native.Char.{code}
 use Prim.Native.String.{String, [] as none, _∷_ as _then_}
 use mathlib.Core.List.{List, [], _∷_, _++_, flatMap}
 use lib.ListN.{length, take, drop, replicate}
 use Rattle.rules.specs.Words.{if_then_else_, _<?_, _=?_, row}
-use Rattle.rules.specs.Sheet.{Sheet}
 use Rattle.rules.specs.Reading.{refusal, word}
 use Rattle.rules.specs.Record.{start, recordAt}
 use Rattle.rules.specs.Run.{after, trace}
@@ -36,26 +35,30 @@ unfoldable pub decimal : ℕ → List ℕ
 decimal n = digits (suc n) n
 
 -- A word and the number behind it.
-unfoldable pub field : List ℕ → ℕ → List ℕ
-field name n = name ++ decimal n
+unfoldable pub numbered : (name : List ℕ) (n : ℕ) → List ℕ
+numbered name n = name ++ decimal n
+
+abbrev pub field : (name : String) (n : ℕ) → List ℕ
+field name n = numbered (ascii name) n
 
 unfoldable pub headLine : (ticks switches : ℕ) → List ℕ
-headLine ticks switches = field (ascii "ticks ") ticks ++ field (ascii " switches ") switches ++ ascii "\n"
+headLine ticks switches = field "ticks " ticks ++ field " switches " switches ++ ascii "\n"
 
--- How many jobs were released and done, and how many releases missed.
+-- Its releases, completions and misses;
 unfoldable pub jobs : Counts → List ℕ
-jobs c = field (ascii " releases ") (c .releases) ++ field (ascii " done ") (c .completions) ++ field (ascii " missed ") (c .misses)
+jobs c = field " releases " (c .releases) ++ field " done " (c .completions) ++ field " missed " (c .misses)
 
--- The ticks run, the ticks blocked and the worst response.
+-- its ticks run, its ticks blocked and its worst response;
 unfoldable pub times : Counts → List ℕ
-times c = field (ascii " ran ") (c .ran) ++ field (ascii " blocked ") (c .blocked) ++ field (ascii " worst ") (c .worst)
+times c = field " ran " (c .ran) ++ field " blocked " (c .blocked) ++ field " worst " (c .worst)
 
--- A laxity may be negative.
+-- (a laxity may be negative)
 unfoldable pub signedDecimal : Laxity → List ℕ
 signedDecimal x = (if x .below then ascii "-" else []) ++ decimal (x .size)
 
+-- its bound and its laxity.
 unfoldable pub analysis : (bound : ℕ) (laxity : Laxity) → List ℕ
-analysis bound laxity = field (ascii " bound ") bound ++ ascii " laxity " ++ signedDecimal laxity
+analysis bound laxity = field " bound " bound ++ ascii " laxity " ++ signedDecimal laxity
 
 -- One line per rank, first field the rank.
 unfoldable pub taskLine : (i : ℕ) → Counts → (bound : ℕ) (laxity : Laxity) → List ℕ
@@ -77,7 +80,7 @@ report n st bounds laxities runners = headLine (st .t) (st .switches) ++ taskLin
 
 -- A refusal prints this alone.
 unfoldable pub refusalLine : Refusal → List ℕ
-refusalLine x = field (ascii "refused ") (x .number) ++ field (ascii " task ") (x .rank) ++ field (ascii " step ") (x .step) ++ ascii "\n"
+refusalLine x = field "refused " (x .number) ++ field " task " (x .rank) ++ field " step " (x .step) ++ ascii "\n"
 
 -- What a horizon and a sheet print. The trace has the horizon's length, so that 15 is never given.
 unfoldable pub printedRun : (horizon : ℕ) (bytes : List ℕ) → List ℕ

@@ -1,16 +1,17 @@
-// What the printing program prints, written into a buffer that the caller lends. Each function puts a text at a cursor and
-// answers the cursor behind it; what the texts are stands in specs/Text.antt.
+// What the printing program prints, put into a buffer that the caller lends. Each function puts a text at a cursor and
+// answers the cursor behind it; what the texts are stands in specs/Text.antt. The room that a function asks for is that of
+// its words, with ten bytes for each number.
 use rules::Counts;
 use rules::Laxity;
 use rules::Refusal;
 use rules::State;
 ghost use Prim.Native.Nat.{_+_, _*_, _≤_, _<_};
 ghost use mathlib.Core.Path.{_≡_};
-ghost use mathlib.Core.List.{[], _∷_, _++_};
-ghost use lib.ListN.{length, take, getD};
+ghost use mathlib.Core.List.{[], _∷_};
+ghost use lib.ListN.{length, take};
 ghost use Rattle.text.specs.Buffer.{Put, boundAt, laxityAt};
 ghost use Rattle.text.specs.Text.{digit as Text·digit};
-ghost use Rattle.text.specs.Text.{ascii, decimal, field, headLine, jobs, times, signedDecimal, analysis, taskLine, taskLines, traceLine, report, refusalLine, tickWord};
+ghost use Rattle.text.specs.Text.{decimal, numbered, headLine, jobs, times, signedDecimal, analysis, taskLine, taskLines, traceLine, report, refusalLine, tickWord};
 
 fn put_byte(out: &mut [u8], at: usize, b: u8) -> usize
     requires { ⌜ at < length (now out) ⌝ }
@@ -55,7 +56,7 @@ fn put_number(out: &mut [u8], at: usize, n: u32) -> usize
 // A word and the number behind it.
 fn put_field(out: &mut [u8], at: usize, name: &[u8], n: u16) -> usize
     requires { ⌜ at + (length (now name) + 10) ≤ length (now out) ⌝ }
-    ensures { λ r. ⌜ Put (now (out .entry)) at (field (now (name .entry)) n) (now (out .exit)) r ⌝ }
+    ensures { λ r. ⌜ Put (now (out .entry)) at (numbered (now (name .entry)) n) (now (out .exit)) r ⌝ }
     ensures { λ r. ⌜ r ≤ at + (length (now (name .entry)) + 10) ⌝ }
 {
     let next = put_text(out, at, name);
@@ -146,8 +147,7 @@ fn put_task_lines(
         let task = st.tasks[i];
         let counts = task.counts;
         let laxity = laxities[i];
-        let more = put_task_line(out, next, i as u32, counts, bounds[i], laxity);
-        next = more;
+        next = put_task_line(out, next, i as u32, counts, bounds[i], laxity);
         i += 1;
     }
     next
@@ -169,7 +169,7 @@ fn put_runner(out: &mut [u8], at: usize, x: u8) -> usize
     put_number(out, next, x as u32)
 }
 
-// The first h bytes of a trace. A word has at most four bytes.
+// The first h bytes of a trace: a word with its space has at most four bytes.
 fn put_trace_line(out: &mut [u8], at: usize, trace: &[u8], h: usize) -> usize
     requires { ⌜ h ≤ length (now trace) ⌝ }
     requires { ⌜ at + (4 * h + 32) ≤ length (now out) ⌝ }
@@ -179,8 +179,7 @@ fn put_trace_line(out: &mut [u8], at: usize, trace: &[u8], h: usize) -> usize
     let mut next = put_text(out, at, b"trace");
     let mut i = 0;
     while i < h {
-        let more = put_runner(out, next, trace[i]);
-        next = more;
+        next = put_runner(out, next, trace[i]);
         i += 1;
     }
     put_byte(out, next, b'\n')
@@ -202,9 +201,7 @@ pub fn put_report(
     requires { ⌜ at + (4 * h + 4096) ≤ length (now out) ⌝ }
     ensures { λ r. ⌜ Put (now (out .entry)) at (report n st (boundAt bounds) (laxityAt laxities) (take h (now (trace .entry)))) (now (out .exit)) r ⌝ }
 {
-    let t = st.t;
-    let switches = st.switches;
-    let next = put_head_line(out, at, t, switches);
+    let next = put_head_line(out, at, st.t, st.switches);
     let next = put_task_lines(out, next, n, st, bounds, laxities);
     put_trace_line(out, next, trace, h)
 }

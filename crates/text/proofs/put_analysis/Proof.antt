@@ -1,29 +1,25 @@
+use mathlib.Core.Path.{refl}
 use borrow.Author.Needs.{needs}
 use native.Mathlib.Omega.{arith}
 use Rattle.text.specs.Text.{analysis}
 use Rattle.text.proofs.Put.{put-more}
 use Rattle.text.proofs.put_analysis.Statement.{statement}
 use Rattle.text.proofs.put_analysis.Tie as tie
-use Rattle.text.proofs.put_analysis.Reads as reads
-use Rattle.text.proofs.put_analysis.Lts as lts
-use Rattle.text.proofs.put_field.Reads as put-field-reads
-use Rattle.text.proofs.put_laxity.Reads as put-laxity-reads
-use Rattle.text.proofs.put_text.Reads as put-text-reads
 
 slice-aggregate-put-field : tie.Need-slice-aggregate-put-field
-slice-aggregate-put-field c = search needs
+slice-aggregate-put-field c = refl
 
 put-field-requires : tie.Need-put-field-requires
-put-field-requires c κs = search needs
+put-field-requires c κs = omega arith
 
 slice-aggregate-put-text : tie.Need-slice-aggregate-put-text
-slice-aggregate-put-text c = search needs
+slice-aggregate-put-text c = refl
 
 put-text-requires : tie.Need-put-text-requires
-put-text-requires c κs = search needs
+put-text-requires c κs = omega arith
 
 put-laxity-requires : tie.Need-put-laxity-requires
-put-laxity-requires c κs = search needs
+put-laxity-requires c κs = omega arith
 
 same-length : tie.Need-same-length
 same-length c = search needs

@@ -1,28 +1,25 @@
+use mathlib.Core.Path.{refl}
 use borrow.Author.Needs.{needs}
 use native.Mathlib.Omega.{arith}
 use Rattle.text.specs.Text.{headLine}
 use Rattle.text.proofs.Put.{put-more}
 use Rattle.text.proofs.put_head_line.Statement.{statement}
 use Rattle.text.proofs.put_head_line.Tie as tie
-use Rattle.text.proofs.put_head_line.Reads as reads
-use Rattle.text.proofs.put_head_line.Lts as lts
-use Rattle.text.proofs.put_byte.Reads as put-byte-reads
-use Rattle.text.proofs.put_field.Reads as put-field-reads
 
 slice-aggregate-put-field : tie.Need-slice-aggregate-put-field
-slice-aggregate-put-field c = search needs
+slice-aggregate-put-field c = refl
 
 put-field-requires : tie.Need-put-field-requires
-put-field-requires c κs = search needs
+put-field-requires c κs = omega arith
 
 slice-aggregate-put-field-2 : tie.Need-slice-aggregate-put-field-2
-slice-aggregate-put-field-2 c = search needs
+slice-aggregate-put-field-2 c = refl
 
 put-field-requires-2 : tie.Need-put-field-requires-2
-put-field-requires-2 c κs = search needs
+put-field-requires-2 c κs = omega arith
 
 put-byte-requires : tie.Need-put-byte-requires
-put-byte-requires c κs = search needs
+put-byte-requires c κs = omega arith
 
 same-length : tie.Need-same-length
 same-length c = search needs

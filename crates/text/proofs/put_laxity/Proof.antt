@@ -3,16 +3,12 @@ use native.Mathlib.Omega.{arith}
 use Rattle.text.proofs.Put.{laxity-below, laxity-not}
 use Rattle.text.proofs.put_laxity.Statement.{statement}
 use Rattle.text.proofs.put_laxity.Tie as tie
-use Rattle.text.proofs.put_laxity.Reads as reads
-use Rattle.text.proofs.put_laxity.Lts as lts
-use Rattle.text.proofs.put_byte.Reads as put-byte-reads
-use Rattle.text.proofs.put_number.Reads as put-number-reads
 
 put-byte-requires : tie.Need-put-byte-requires
-put-byte-requires c κs = search needs
+put-byte-requires c κs = omega arith
 
 put-number-requires : tie.Need-put-number-requires
-put-number-requires c κs = search needs
+put-number-requires c κs = omega arith
 
 same-length : tie.Need-same-length
 same-length c = search needs
@@ -21,7 +17,7 @@ returns : tie.Need-returns
 returns c = (search laxity-below, omega arith)
 
 put-number-requires-2 : tie.Need-put-number-requires-2
-put-number-requires-2 c κs = search needs
+put-number-requires-2 c κs = omega arith
 
 same-length-2 : tie.Need-same-length-2
 same-length-2 c = search needs

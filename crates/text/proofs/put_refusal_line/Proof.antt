@@ -1,42 +1,40 @@
+use native.Mathlib.Omega.{arith}
+use mathlib.Core.Path.{refl}
 use borrow.Author.Needs.{needs}
 use Rattle.text.specs.Text.{refusalLine}
 use Rattle.text.proofs.Put.{put-more}
 use Rattle.text.proofs.put_refusal_line.Statement.{statement}
 use Rattle.text.proofs.put_refusal_line.Tie as tie
-use Rattle.text.proofs.put_refusal_line.Reads as reads
-use Rattle.text.proofs.put_refusal_line.Lts as lts
-use Rattle.text.proofs.put_byte.Reads as put-byte-reads
-use Rattle.text.proofs.put_field.Reads as put-field-reads
 
 slice-aggregate-put-field : tie.Need-slice-aggregate-put-field
-slice-aggregate-put-field c = search needs
+slice-aggregate-put-field c = refl
 
 cast-put-field : tie.Need-cast-put-field
 cast-put-field c = search needs
 
 put-field-requires : tie.Need-put-field-requires
-put-field-requires c κs = search needs
+put-field-requires c κs = omega arith
 
 slice-aggregate-put-field-2 : tie.Need-slice-aggregate-put-field-2
-slice-aggregate-put-field-2 c = search needs
+slice-aggregate-put-field-2 c = refl
 
 cast-put-field-2 : tie.Need-cast-put-field-2
 cast-put-field-2 c = search needs
 
 put-field-requires-2 : tie.Need-put-field-requires-2
-put-field-requires-2 c κs = search needs
+put-field-requires-2 c κs = omega arith
 
 slice-aggregate-put-field-3 : tie.Need-slice-aggregate-put-field-3
-slice-aggregate-put-field-3 c = search needs
+slice-aggregate-put-field-3 c = refl
 
 cast-put-field-3 : tie.Need-cast-put-field-3
 cast-put-field-3 c = search needs
 
 put-field-requires-3 : tie.Need-put-field-requires-3
-put-field-requires-3 c κs = search needs
+put-field-requires-3 c κs = omega arith
 
 put-byte-requires : tie.Need-put-byte-requires
-put-byte-requires c κs = search needs
+put-byte-requires c κs = omega arith
 
 same-length : tie.Need-same-length
 same-length c = search needs

@@ -4,16 +4,12 @@ use Rattle.text.proofs.Decimal.{decimal-few}
 use Rattle.text.proofs.Put.{tick-idle, tick-stuck, tick-rank}
 use Rattle.text.proofs.put_runner.Statement.{statement}
 use Rattle.text.proofs.put_runner.Tie as tie
-use Rattle.text.proofs.put_runner.Reads as reads
-use Rattle.text.proofs.put_runner.Lts as lts
-use Rattle.text.proofs.put_byte.Reads as put-byte-reads
-use Rattle.text.proofs.put_number.Reads as put-number-reads
 
 put-byte-requires : tie.Need-put-byte-requires
-put-byte-requires c κs = search needs
+put-byte-requires c κs = omega arith
 
 put-byte-requires-2 : tie.Need-put-byte-requires-2
-put-byte-requires-2 c κs = search needs
+put-byte-requires-2 c κs = omega arith
 
 same-length : tie.Need-same-length
 same-length c = search needs
@@ -22,7 +18,7 @@ returns : tie.Need-returns
 returns c = (search tick-idle, omega arith)
 
 put-byte-requires-3 : tie.Need-put-byte-requires-3
-put-byte-requires-3 c κs = search needs
+put-byte-requires-3 c κs = omega arith
 
 same-length-2 : tie.Need-same-length-2
 same-length-2 c = search needs
@@ -31,7 +27,7 @@ returns-2 : tie.Need-returns-2
 returns-2 c = (search tick-stuck, omega arith)
 
 put-number-requires : tie.Need-put-number-requires
-put-number-requires c κs = search needs
+put-number-requires c κs = omega arith
 
 same-length-3 : tie.Need-same-length-3
 same-length-3 c = search needs

@@ -4,28 +4,21 @@ use Rattle.text.specs.Text.{taskLine}
 use Rattle.text.proofs.Put.{put-more}
 use Rattle.text.proofs.put_task_line.Statement.{statement}
 use Rattle.text.proofs.put_task_line.Tie as tie
-use Rattle.text.proofs.put_task_line.Reads as reads
-use Rattle.text.proofs.put_task_line.Lts as lts
-use Rattle.text.proofs.put_analysis.Reads as put-analysis-reads
-use Rattle.text.proofs.put_byte.Reads as put-byte-reads
-use Rattle.text.proofs.put_jobs.Reads as put-jobs-reads
-use Rattle.text.proofs.put_number.Reads as put-number-reads
-use Rattle.text.proofs.put_times.Reads as put-times-reads
 
 put-number-requires : tie.Need-put-number-requires
-put-number-requires c κs = search needs
+put-number-requires c κs = omega arith
 
 put-jobs-requires : tie.Need-put-jobs-requires
-put-jobs-requires c κs = search needs
+put-jobs-requires c κs = omega arith
 
 put-times-requires : tie.Need-put-times-requires
-put-times-requires c κs = search needs
+put-times-requires c κs = omega arith
 
 put-analysis-requires : tie.Need-put-analysis-requires
-put-analysis-requires c κs = search needs
+put-analysis-requires c κs = omega arith
 
 put-byte-requires : tie.Need-put-byte-requires
-put-byte-requires c κs = search needs
+put-byte-requires c κs = omega arith
 
 same-length : tie.Need-same-length
 same-length c = search needs

@@ -10,9 +10,6 @@ use Rattle.text.specs.Text.{taskLines}
 use Rattle.text.proofs.Put.{put-none, put-length, lines-more}
 use Rattle.text.proofs.put_task_lines.Statement.{statement}
 use Rattle.text.proofs.put_task_lines.Tie as tie
-use Rattle.text.proofs.put_task_lines.Reads as reads
-use Rattle.text.proofs.put_task_lines.Lts as lts
-use Rattle.text.proofs.put_task_line.Reads as put-task-line-reads
 
 abbrev Inv-loop : tie.InvT-loop
 Inv-loop out₀ at n st bounds laxities next₀ i₀ out next i =

@@ -7,9 +7,6 @@ use Rattle.text.specs.Buffer.{Put}
 use Rattle.text.proofs.Put.{put-none, put-length, put-next, put-whole}
 use Rattle.text.proofs.put_text.Statement.{statement}
 use Rattle.text.proofs.put_text.Tie as tie
-use Rattle.text.proofs.put_text.Reads as reads
-use Rattle.text.proofs.put_text.Lts as lts
-use Rattle.text.proofs.put_byte.Reads as put-byte-reads
 
 abbrev Inv-loop : tie.InvT-loop
 Inv-loop out₀ at text next₀ i₀ out next i = (i ≤ length text) × Put out₀ at (take i text) out next

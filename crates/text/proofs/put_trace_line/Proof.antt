@@ -9,11 +9,6 @@ use Rattle.text.specs.Text.{tickWord, traceLine}
 use Rattle.text.proofs.Put.{put-none, put-length, put-more, words-more}
 use Rattle.text.proofs.put_trace_line.Statement.{statement}
 use Rattle.text.proofs.put_trace_line.Tie as tie
-use Rattle.text.proofs.put_trace_line.Reads as reads
-use Rattle.text.proofs.put_trace_line.Lts as lts
-use Rattle.text.proofs.put_byte.Reads as put-byte-reads
-use Rattle.text.proofs.put_runner.Reads as put-runner-reads
-use Rattle.text.proofs.put_text.Reads as put-text-reads
 
 abbrev Inv-loop : tie.InvT-loop
 Inv-loop out₀ at trace h next₀ i₀ out next i =
