@@ -6,16 +6,15 @@ use mathlib.Core.List.{List, [], _∷_, _++_}
 use mathlib.Core.Bool.{Bool, true, false, _&&_, _||_}
 use native.Mathlib.Omega.{arith}
 use native.Mathlib.Numerals.{add-one}
-use lib.ListN.{length, getD, take, set, replicate, length-set, List·getD-eq-default}
+use lib.ListN.{length, getD, set, replicate, length-set, List·getD-eq-default}
 use lib.Seq.{take-nil, getD-set-same, getD-set-other, ext-getD}
 use borrow.Author.Tests.{lt-ltb, le-ltb, eq-eqb, ne-eqb, eqb-true, eqb-false}
-use Rattle.rules.specs.Words.{if_then_else_, _<?_, _=?_, smallest, row, any, among}
-use Rattle.rules.specs.Sheet.{Step, run, lock, unlock, Task, Sheet, noTask, taskAt, without, heldOnTop, held}
+use Rattle.rules.specs.Words.{if_then_else_, _=?_, smallest, row, any, among}
+use Rattle.rules.specs.Sheet.{Step, run, lock, unlock, Sheet, noTask, taskAt, without, heldOnTop, held}
 use Rattle.rules.specs.Record.{blank, recordAt, behind, carries, holds}
-use Rattle.rules.specs.declared.Job.{Job}
 use Rattle.rules.specs.declared.TaskRecord.{TaskRecord}
-use Rattle.rules.proofs.Laws.{sure, below, length-row, row-at, smallest-same, smallest-found, smallest-there, smallest-le, smallest-none}
-use Rattle.table.specs.Table.{here, taskOf, noEntry, entryOf, sheetOf}
+use Rattle.rules.proofs.Laws.{sure, below, length-row, row-at, smallest-found, smallest-there, smallest-le, smallest-none}
+use Rattle.table.specs.Table.{here, taskOf, noEntry, sheetOf}
 use Rattle.table.specs.declared.Table.{Table}
 use Rattle.table.specs.declared.Here.{Here}
 use Rattle.table.proofs.Laws.{entry-in, task-at, tasks-count}
@@ -37,11 +36,11 @@ set-row s h f g l e other = ext-getD 0 (set (row 16 f) s h) (row 16 g) (length-s
     (sure (s =? k)))
 
 -- by a lock or an unlock of s
-turn-row : (i s : ℕ) (x : Here) (f g : ℕ → ℕ) → semaphoreOf x ≡ s → entryAfter i x (f s) ≡ g s → ((k : ℕ) → (s ≡ k → ⊥) → f k ≡ g k)
+pub turn-row : (i s : ℕ) (x : Here) (f g : ℕ → ℕ) → semaphoreOf x ≡ s → (s < 16 → entryAfter i x (f s) ≡ g s) → ((k : ℕ) → (s ≡ k → ⊥) → f k ≡ g k)
     → afterStep i x (row 16 f) ≡ row 16 g
 unfolding afterStep
 turn-row i s x f g e here other = rw e (⊎-elim
-    (λ l. rw (lt-ltb s 16 l) (set-row s _ f g l (ap (entryAfter i x) (row-at 16 f 0 s l) ∙ here) (λ k m n. other k n)))
+    (λ l. rw (lt-ltb s 16 l) (set-row s _ f g l (ap (entryAfter i x) (row-at 16 f 0 s l) ∙ here l) (λ k m n. other k n)))
     (λ l. rw (le-ltb s 16 l) (row-same 16 f g (λ k m. other k (λ z. omega arith))))
     (below s 16))
 
@@ -90,7 +89,7 @@ give-own i own p l = ⊎-elim
     go false h = rw (smallest-none i 255 p h, ne-eqb 255 i (λ e. omega arith)) refl
 
 -- what is held without one that is given back
-without-same : (s : ℕ) (own : List ℕ) → among s (without s own) ≡ false
+pub without-same : (s : ℕ) (own : List ℕ) → among s (without s own) ≡ false
 unfolding among any without
 without-same s [] = refl
 without-same s (u ∷ own) = go (u =? s) refl (without-same s own)
@@ -99,7 +98,7 @@ without-same s (u ∷ own) = go (u =? s) refl (without-same s own)
     go true e h = h
     go false e h = rw e h
 
-without-other : (s k : ℕ) (own : List ℕ) → (s ≡ k → ⊥) → among k (without s own) ≡ among k own
+pub without-other : (s k : ℕ) (own : List ℕ) → (s ≡ k → ⊥) → among k (without s own) ≡ among k own
 unfolding among any without
 without-other s k [] n = refl
 without-other s k (u ∷ own) n = go (u =? s) refl (without-other s k own n)
@@ -113,13 +112,13 @@ module _ (sheet : Sheet) (records : List TaskRecord) where
     took : (s : ℕ) (own : List ℕ) → afterStep i (Here.Lock s) (row 16 (holderWith sheet records i own)) ≡ row 16 (holderWith sheet records i (s ∷ own))
     unfolding holderWith among any entryAfter
     took s own = turn-row i s (Here.Lock s) (holderWith sheet records i own) (holderWith sheet records i (s ∷ own)) refl
-        (take-own i (among s own) (λ j. holds sheet records j s) l ∙ ap (λ (b : Bool). smallest i (if b || among s own then i else 255) (λ j. holds sheet records j s)) (sym (eq-eqb s s refl)))
+        (λ u. take-own i (among s own) (λ j. holds sheet records j s) l ∙ ap (λ (b : Bool). smallest i (if b || among s own then i else 255) (λ j. holds sheet records j s)) (sym (eq-eqb s s refl)))
         (λ k n. ap (λ (b : Bool). smallest i (if b || among k own then i else 255) (λ j. holds sheet records j k)) (sym (ne-eqb s k n)))
 
     gave : (s : ℕ) (own : List ℕ) → afterStep i (Here.Unlock s) (row 16 (holderWith sheet records i own)) ≡ row 16 (holderWith sheet records i (without s own))
     unfolding holderWith entryAfter
     gave s own = turn-row i s (Here.Unlock s) (holderWith sheet records i own) (holderWith sheet records i (without s own)) refl
-        (give-own i (among s own) (λ j. holds sheet records j s) l ∙ ap (λ (b : Bool). smallest i (if b then i else 255) (λ j. holds sheet records j s)) (sym (without-same s own)))
+        (λ u. give-own i (among s own) (λ j. holds sheet records j s) l ∙ ap (λ (b : Bool). smallest i (if b then i else 255) (λ j. holds sheet records j s)) (sym (without-same s own)))
         (λ k n. ap (λ (b : Bool). smallest i (if b then i else 255) (λ j. holds sheet records j k)) (sym (without-other s k own n)))
 
     -- after its steps, rank i has what they hold

@@ -1,25 +1,25 @@
 -- Laws of the loops over the steps before a position, and of what stands there.
-use Prim.Native.Nat.{ℕ, zero, suc, _+_, _-_, _≤_, _<_}
+use Prim.Native.Nat.{ℕ, suc, _+_, _-_, _≤_, _<_}
 use mathlib.Core.Path.{_≡_, refl, sym, ap, _∙_}
 use mathlib.Core.Logic.{⊎-elim}
 use mathlib.Core.List.{List, [], _∷_}
 use mathlib.Core.Bool.{Bool, true, false, not, _&&_, _||_}
 use native.Mathlib.Omega.{arith}
-use lib.ListN.{length, getD, take, drop, set}
+use lib.ListN.{getD, take, drop, set}
 use lib.Seq.{take-nil, take-all, drop-drop}
 use borrow.Author.Tests.{lt-ltb, le-ltb, eq-eqb, ne-eqb}
-use Rattle.rules.specs.Words.{if_then_else_, _<?_, _=?_, _⇒_, any}
+use Rattle.rules.specs.Words.{if_then_else_, _<?_, _=?_, any}
 use Rattle.rules.specs.Sheet.{Step, run, lock, unlock, Task, isRun, isLock}
 use Rattle.rules.specs.Record.{behind, ahead}
 use Rattle.rules.specs.Choice.{atRun, full, fresh, goes}
 use Rattle.rules.specs.declared.Job.{Job}
-use Rattle.rules.proofs.Laws.{sure, true-false, and-no}
+use Rattle.rules.proofs.Laws.{sure, and-no}
 use Rattle.table.specs.Table.{here, taskOf}
 use Rattle.table.specs.declared.Entry.{Entry}
 use Rattle.table.specs.declared.Here.{Here}
 use Rattle.table.proofs.Laws.{length-steps}
 use Rattle.choice.specs.Steps.{runHere, lockHere}
-use Rattle.choice.specs.Holders.{semaphoreOf, entryAfter, afterStep, afterSteps, afterJob}
+use Rattle.choice.specs.Holders.{semaphoreOf, entryAfter, afterStep, afterSteps, afterJob, reached, afterTick}
 
 -- what is left before position q: at p the step there, and what is left behind it
 pub left-more : (steps : List Step) (p q : ℕ) → p < q → take (q - p) (drop p steps) ≡ take (suc (q - (p + 1))) (drop p steps)
@@ -111,6 +111,18 @@ module _ (i : ℕ) where
     unfolding afterJob behind
     job-holds h r e = let z : j .position - 0 ≡ j .position = omega arith in rw h (e ∙ ap (λ (n : ℕ). afterSteps i (take n (task .steps)) hs) z)
 
+-- and along those of a runner's tick
+module _ (bytes : List ℕ) (e : Entry) (i : ℕ) (before after : Job) (hs r : List ℕ) where
+  pub tick-comes : after .pending ≡ true → r ≡ afterSteps i (take (after .position - before .position) (drop (before .position) (taskOf bytes e .steps))) hs
+      → r ≡ afterTick i (taskOf bytes e) before after hs
+  unfolding afterTick reached
+  tick-comes h u = rw h u
+
+  pub tick-completes : after .pending ≡ false → r ≡ afterSteps i (take (e .count - before .position) (drop (before .position) (taskOf bytes e .steps))) hs
+      → r ≡ afterTick i (taskOf bytes e) before after hs
+  unfolding afterTick reached
+  tick-completes h u = rw (h, length-steps bytes e) u
+
 -- an entry, by the step
 module _ (i : ℕ) (x : Here) (h : ℕ) where
   pub run-leaves : (n : ℕ) → x ≡ Here.Run n → h ≡ entryAfter i x h
@@ -141,7 +153,7 @@ module _ (i : ℕ) (x : Here) (h : ℕ) where
 
 -- rule 3 of a job that is not free of ceilings: by what stands at its position
 module _ (mode : ℕ) (task : Task) (j : Job) where
-  barred-goes : goes mode task j false ≡ (not (mode =? 1 && fresh task j && any isLock (task .steps)) && atRun task j)
+  pub barred-goes : goes mode task j false ≡ (not (mode =? 1 && fresh task j && any isLock (task .steps)) && atRun task j)
   unfolding goes
   barred-goes = go (mode =? 1 && fresh task j && any isLock (task .steps)) (atRun task j)
     where
@@ -215,7 +227,7 @@ module _ (mode : ℕ) (task : Task) (j : Job) where
         pub goes-fresh : a ≡ false → (b : Bool) → b ≡ any isLock (task .steps) → not b ≡ goes mode task j false
         goes-fresh h b eb = sym (goes-run ∙ rw (eq-eqb mode 1 k, eq-eqb (j .left) v n, ← ea, ← eb, h) refl)
 
-  -- free of ceilings, any job goes
+  -- free of ceilings, any job goes; and who goes though not free goes in any case
   pub goes-free : goes mode task j true ≡ true
   unfolding goes
   goes-free = go (mode =? 1 && fresh task j && any isLock (task .steps)) (atRun task j)
@@ -224,16 +236,5 @@ module _ (mode : ℕ) (task : Task) (j : Job) where
       go true b = refl
       go false b = refl
 
-  module _ (free : Bool) where
-    pub goes-as-free : free ≡ true → true ≡ goes mode task j free
-    goes-as-free h = sym (ap (goes mode task j) h ∙ goes-free)
-
-    pub goes-as-barred : free ≡ false → (b : Bool) → b ≡ goes mode task j false → b ≡ goes mode task j free
-    goes-as-barred h b e = e ∙ ap (goes mode task j) (sym h)
-
-    -- who goes though not free goes in any case, and who does not go is not free
-    pub goes-anyway : goes mode task j false ≡ true → goes mode task j free ≡ true
-    goes-anyway e = ⊎-elim (λ h. ap (goes mode task j) h ∙ goes-free) (λ h. ap (goes mode task j) h ∙ e) (sure free)
-
-    pub waits-barred : goes mode task j free ≡ false → free ≡ false
-    waits-barred e = ⊎-elim (λ h. true-false (goes mode task j free) (ap (goes mode task j) h ∙ goes-free) e) (λ h. h) (sure free)
+  pub goes-anyway : (free : Bool) → goes mode task j false ≡ true → goes mode task j free ≡ true
+  goes-anyway free e = ⊎-elim (λ h. ap (goes mode task j) h ∙ goes-free) (λ h. ap (goes mode task j) h ∙ e) (sure free)

@@ -1,18 +1,17 @@
 -- Laws of rule 4: the pending job of smallest rank, the walk from it, and the runner.
-use Prim.Native.Nat.{ℕ, zero, suc, _+_, _-_, _≤_, _<_}
-use mathlib.Core.Path.{_≡_, refl, sym, ap, ap₂, _∙_}
-use mathlib.Core.Logic.{_⊎_, inl, inr, ⊎-elim}
+use Prim.Native.Nat.{ℕ, suc, _+_, _-_, _≤_, _<_}
+use mathlib.Core.Path.{_≡_, refl, sym, ap, _∙_}
+use mathlib.Core.Logic.{⊎-elim}
 use mathlib.Core.List.{List, [], _∷_}
-use mathlib.Core.Bool.{Bool, true, false, _||_}
+use mathlib.Core.Bool.{Bool, true, false}
 use native.Mathlib.Omega.{arith}
 use lib.ListN.{length, getD}
 use borrow.Author.Tests.{eqb-true}
-use Rattle.rules.specs.Words.{_<?_, _=?_, smallest, row, any}
+use Rattle.rules.specs.Words.{_<?_, _=?_, row, any}
 use Rattle.rules.specs.Sheet.{Step, run, lock, unlock, Task, Sheet, taskAt, isLockOf}
 use Rattle.rules.specs.Record.{blank, recordAt, holds}
-use Rattle.rules.specs.Choice.{Runner, job, stuck, runnerByte, locks, ceiling, goes, topJob, freeOfCeilings, mayGo, nextCandidate, walk, runner}
-use Rattle.rules.specs.Laws.{All, StepLimits, TaskLimits, Limits}
-use Rattle.rules.specs.declared.Job.{Job}
+use Rattle.rules.specs.Choice.{job, runnerByte, locks, ceiling, goes, topJob, freeOfCeilings, mayGo, nextCandidate, walk, runner}
+use Rattle.rules.specs.Laws.{All, StepLimits, Limits}
 use Rattle.rules.specs.declared.TaskRecord.{TaskRecord}
 use Rattle.rules.proofs.Laws.{sure, below, and-at, or-cases, row-at, smallest-found, smallest-is, smallest-none}
 use Rattle.rules.proofs.Choice.{holds-locks, next-holds}
@@ -25,12 +24,12 @@ use Rattle.table.proofs.Laws.{task-at, tasks-count}
 use Rattle.choice.specs.declared.Way.{Way}
 use Rattle.choice.specs.Holders.{Choosable, holder, holders}
 use Rattle.choice.specs.Way.{nearest}
-use Rattle.choice.proofs.Steps.{goes-anyway, waits-barred}
+use Rattle.choice.proofs.Steps.{goes-free, goes-anyway}
 use Rattle.choice.proofs.Holders.{holds-past}
 use Rattle.choice.proofs.Ways.{nearest-past, free-by, next-by}
 
 -- the pending job of smallest rank
-module _ (records : List TaskRecord) (n i : ℕ) (few : n ≤ 16) (rest : (k : ℕ) → n ≤ k → recordAt records k .job .pending ≡ false)
+module _ (records : List TaskRecord) (n i : ℕ) (few : n ≤ 16) (rest : (k : ℕ) → k < 16 → n ≤ k → recordAt records k .job .pending ≡ false)
     (none : (k : ℕ) → k < i → recordAt records k .job .pending ≡ false) where
   pub top-here : i < n → getD records i blank .job .pending ≡ true → i ≡ topJob records
   unfolding topJob recordAt
@@ -42,7 +41,7 @@ module _ (records : List TaskRecord) (n i : ℕ) (few : n ≤ 16) (rest : (k : �
 
   pub top-none : n ≤ i → 255 ≡ topJob records
   unfolding topJob
-  top-none l = sym (smallest-none 16 255 (λ i. recordAt records i .job .pending) (λ k m. ⊎-elim (none k) (λ u. rest k (omega arith)) (below k i)))
+  top-none l = sym (smallest-none 16 255 (λ i. recordAt records i .job .pending) (λ k m. ⊎-elim (none k) (λ u. rest k m (omega arith)) (below k i)))
 
 pub top-rank : (records : List TaskRecord) (top : ℕ) → top ≡ topJob records → (top ≡ 255 → ⊥) → top < 16
 unfolding topJob
@@ -91,48 +90,56 @@ module _ (bytes : List ℕ) (table : Table) (τ : Tabled bytes table) where
         (sure (holds (sheetOf bytes table) records j k)))
 
     module _ (χ : Choosable (sheetOf bytes table) records) where
-      pub past-rest : (i : ℕ) → table .n ≤ i → recordAt records i .job .pending ≡ false
-      past-rest i l = χ .few i (let n = tasks-count bytes table in omega arith)
+      pub past-rest : (i : ℕ) → i < 16 → table .n ≤ i → recordAt records i .job .pending ≡ false
+      past-rest i u l = χ .few i u (let n = tasks-count bytes table in omega arith)
 
-      -- a candidate, by what is in its way
-      module _ (cs hs : List ℕ) (ec : cs ≡ row 16 (ceiling (sheetOf bytes table))) (eh : hs ≡ holders (sheetOf bytes table) records)
-          (c : ℕ) (rank : c < 16) (w : Way) (ew : w ≡ nearest c cs hs (table .semaphores)) where
-        whole-way : w ≡ nearest c cs hs 16
-        unfolding holders
-        whole-way = ew ∙ nearest-past 16 c cs hs (table .semaphores) few-semaphores (λ k l u.
-            ap (λ (xs : List ℕ). getD xs k 0) eh ∙ row-at 16 (holder (sheetOf bytes table) records) 0 k u ∙ holder-past k l)
+      -- a candidate: it goes though barred, or it is free of ceilings, or its way leads on
+      module _ (c : ℕ) (rank : c < 16) (e : Entry) (ee : e ≡ entryOf table c) (b : Bool)
+          (eb : b ≡ goes (table .mode) (taskOf bytes e) (getD records c blank .job) false)
+          (seen : ℕ) (few : seen < 16) (X : ℕ) (inv : runnerByte (chase (sheetOf bytes table) records (16 - seen) c) ≡ X) where
+        may-go : mayGo (sheetOf bytes table) records c ≡ goes (table .mode) (taskOf bytes e) (getD records c blank .job) (freeOfCeilings (sheetOf bytes table) records c)
+        unfolding mayGo recordAt sheetOf
+        may-go = ap (λ (t : Task). goes (table .mode) t (getD records c blank .job) (freeOfCeilings (sheetOf bytes table) records c))
+            (task-at bytes table c ∙ ap (taskOf bytes) (sym ee))
 
-        module _ (e : Entry) (ee : e ≡ entryOf table c) (free : Bool) (ef : free ≡ (c <? w .ceiling)) (b : Bool)
-            (eb : b ≡ goes (table .mode) (taskOf bytes e) (getD records c blank .job) free) where
+        one-more : runnerByte (chase (sheetOf bytes table) records (suc (16 - (seen + 1))) c) ≡ X
+        one-more = let n : suc (16 - (seen + 1)) ≡ 16 - seen = omega arith in ap (λ (n : ℕ). runnerByte (chase (sheetOf bytes table) records n c)) n ∙ inv
+
+        is-runner : mayGo (sheetOf bytes table) records c ≡ true → c ≡ X
+        unfolding runnerByte
+        is-runner h = sym (ap runnerByte (chase-goes (sheetOf bytes table) records (16 - (seen + 1)) c h)) ∙ one-more
+
+        pub walk-goes : b ≡ true → c ≡ X
+        walk-goes h = is-runner (may-go ∙ goes-anyway (table .mode) (taskOf bytes e) (getD records c blank .job) (freeOfCeilings (sheetOf bytes table) records c) (sym eb ∙ h))
+
+        module _ (h : b ≡ false) (cs hs : List ℕ) (ec : cs ≡ row 16 (ceiling (sheetOf bytes table))) (eh : hs ≡ holders (sheetOf bytes table) records)
+            (w : Way) (ew : w ≡ nearest c cs hs (table .semaphores)) (free : Bool) (ef : free ≡ (c <? w .ceiling)) where
+          whole-way : w ≡ nearest c cs hs 16
+          unfolding holders
+          whole-way = ew ∙ nearest-past 16 c cs hs (table .semaphores) few-semaphores (λ k l u.
+              ap (λ (xs : List ℕ). getD xs k 0) eh ∙ row-at 16 (holder (sheetOf bytes table) records) 0 k u ∙ holder-past k l)
+
           is-free : free ≡ freeOfCeilings (sheetOf bytes table) records c
           is-free = ef ∙ free-by (sheetOf bytes table) records (χ .single) cs hs ec eh c rank w whole-way
 
-          goes-or-waits : b ≡ mayGo (sheetOf bytes table) records c
-          unfolding mayGo recordAt sheetOf
-          goes-or-waits = eb ∙ ap₂ (λ t f. goes (table .mode) t (getD records c blank .job) f)
-              (ap (taskOf bytes) ee ∙ sym (task-at bytes table c)) is-free
+          may-go-if : mayGo (sheetOf bytes table) records c ≡ goes (table .mode) (taskOf bytes e) (getD records c blank .job) free
+          may-go-if = may-go ∙ ap (goes (table .mode) (taskOf bytes e) (getD records c blank .job)) (sym is-free)
 
-          module _ (seen : ℕ) (few : seen < 16) (X : ℕ) (inv : runnerByte (chase (sheetOf bytes table) records (16 - seen) c) ≡ X) where
-            one-more : runnerByte (chase (sheetOf bytes table) records (suc (16 - (seen + 1))) c) ≡ X
-            one-more = let n : suc (16 - (seen + 1)) ≡ 16 - seen = omega arith in ap (λ (n : ℕ). runnerByte (chase (sheetOf bytes table) records n c)) n ∙ inv
+          pub walk-free : free ≡ true → c ≡ X
+          walk-free u = is-runner (may-go-if ∙ ap (goes (table .mode) (taskOf bytes e) (getD records c blank .job)) u ∙ goes-free (table .mode) (taskOf bytes e) (getD records c blank .job))
 
-            pub walk-goes : b ≡ true → c ≡ X
-            unfolding runnerByte
-            walk-goes h = sym (ap runnerByte (chase-goes (sheetOf bytes table) records (16 - (seen + 1)) c (sym goes-or-waits ∙ h))) ∙ one-more
+          module _ (u : free ≡ false) where
+            waits : mayGo (sheetOf bytes table) records c ≡ false
+            waits = may-go-if ∙ ap (goes (table .mode) (taskOf bytes e) (getD records c blank .job)) u ∙ sym eb ∙ h
 
-            module _ (h : b ≡ false) where
-              waits : mayGo (sheetOf bytes table) records c ≡ false
-              waits = sym goes-or-waits ∙ h
+            next : w .holder ≡ nextCandidate (sheetOf bytes table) records c
+            next = next-by (sheetOf bytes table) records (χ .single) cs hs ec eh c rank w whole-way (sym is-free ∙ u)
 
-              next : w .holder ≡ nextCandidate (sheetOf bytes table) records c
-              next = next-by (sheetOf bytes table) records (χ .single) cs hs ec eh c rank w whole-way
-                  (sym is-free ∙ waits-barred (table .mode) (taskOf bytes e) (getD records c blank .job) free (sym eb ∙ h))
+            pub next-rank : w .holder < 16
+            next-rank = rw next (next-holds (sheetOf bytes table) records c waits .0)
 
-              pub next-rank : w .holder < 16
-              next-rank = rw next (next-holds (sheetOf bytes table) records c waits .0)
-
-              pub walk-on : runnerByte (chase (sheetOf bytes table) records (16 - (seen + 1)) (w .holder)) ≡ X
-              walk-on = rw next (sym (ap runnerByte (chase-waits (sheetOf bytes table) records (16 - (seen + 1)) c waits)) ∙ one-more)
+            pub walk-on : runnerByte (chase (sheetOf bytes table) records (16 - (seen + 1)) (w .holder)) ≡ X
+            walk-on = rw next (sym (ap runnerByte (chase-waits (sheetOf bytes table) records (16 - (seen + 1)) c waits)) ∙ one-more)
 
 -- the walk begins, and ends where it has come round
 module _ (sheet : Sheet) (records : List TaskRecord) (from : ℕ) where

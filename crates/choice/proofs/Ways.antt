@@ -3,19 +3,18 @@
 use Prim.Native.Nat.{ℕ, zero, suc, _+_, _≤_, _<_}
 use mathlib.Core.Path.{_≡_, refl, sym, ap, _∙_, subst}
 use mathlib.Core.Logic.{_⊎_, inl, inr, ⊎-elim}
-use mathlib.Core.List.{List, [], _∷_}
-use mathlib.Core.Bool.{Bool, true, false, not, _&&_, _||_}
+use mathlib.Core.List.{List}
+use mathlib.Core.Bool.{Bool, true, false, not, _&&_}
 use native.Mathlib.Omega.{arith}
 use native.Mathlib.Numerals.{add-one}
-use lib.ListN.{length, getD, List·getD-eq-default}
+use lib.ListN.{getD}
 use borrow.Author.Tests.{lt-ltb, le-ltb, le-leb, lt-leb, eq-eqb, ne-eqb, eqb-true, eqb-false, ltb-true, ltb-false}
-use Rattle.rules.specs.Words.{if_then_else_, _<?_, _≤?_, _=?_, _⇒_, some, every, smallest, row, any}
-use Rattle.rules.specs.Sheet.{Step, run, lock, unlock, Sheet, noTask, taskAt, isLockOf}
-use Rattle.rules.specs.Record.{recordAt, carries, holds, noneHeldByTwo}
+use Rattle.rules.specs.Words.{if_then_else_, _<?_, _=?_, _⇒_, some, every, smallest, row}
+use Rattle.rules.specs.Sheet.{Sheet, taskAt}
+use Rattle.rules.specs.Record.{holds, noneHeldByTwo}
 use Rattle.rules.specs.Choice.{locks, ceiling, heldByOther, freeOfCeilings, inTheWay, nextCandidate}
-use Rattle.rules.specs.Laws.{All, StepLimits, Limits}
 use Rattle.rules.specs.declared.TaskRecord.{TaskRecord}
-use Rattle.rules.proofs.Laws.{sure, below, and-at, true-false, and-left, and-right, and-both, and-no, or-cases, implied, implies-no, implies-yes, some-of, none-of, every-at, every-of, every-no, row-at, someone, Found, smallest-found, smallest-le, smallest-is, smallest-none}
+use Rattle.rules.proofs.Laws.{sure, below, and-at, true-false, and-left, and-right, and-both, and-no, implied, implies-no, implies-yes, some-of, none-of, every-at, every-of, every-no, row-at, someone, Found, smallest-found, smallest-le, smallest-is}
 use Rattle.rules.proofs.Choice.{holds-locks}
 use Rattle.choice.specs.declared.Way.{Way}
 use Rattle.choice.specs.Holders.{holder, holders}

@@ -1,9 +1,9 @@
 -- Who holds what, as sixteen numbers: one entry per semaphore.
-use Prim.Native.Nat.{ℕ, _≤_}
+use Prim.Native.Nat.{ℕ, _-_, _≤_, _<_}
 use mathlib.Core.Path.{_≡_}
 use mathlib.Core.List.{List, [], _∷_}
 use mathlib.Core.Bool.{true, false}
-use lib.ListN.{length, getD, set}
+use lib.ListN.{length, getD, take, drop, set}
 use Rattle.rules.specs.Words.{if_then_else_, _<?_, _=?_, smallest, row, among}
 use Rattle.rules.specs.Sheet.{Step, Task, Sheet}
 use Rattle.rules.specs.Record.{recordAt, behind, holds, noneHeldByTwo}
@@ -14,7 +14,7 @@ use Rattle.table.specs.declared.Here.{Here}
 
 -- What the choice needs of sixteen records, and a possible state has.
 pub record Choosable (sheet : Sheet) (records : List TaskRecord) : Type 0 where
-  pub few : (i : ℕ) → length (sheet .tasks) ≤ i → recordAt records i .job .pending ≡ false
+  pub few : (i : ℕ) → i < 16 → length (sheet .tasks) ≤ i → recordAt records i .job .pending ≡ false
   pub single : noneHeldByTwo sheet records ≡ true
 
 -- The rank that holds semaphore s, 255 if none does.
@@ -53,3 +53,10 @@ afterSteps i (x ∷ steps) hs = afterSteps i steps (afterStep i (here (x ∷ [])
 -- A job of rank i: it holds something only where it is pending.
 unfoldable pub afterJob : (i : ℕ) → Task → Job → List ℕ → List ℕ
 afterJob i task j hs = if j .pending then afterSteps i (behind task j) hs else hs
+
+-- A job of rank i that runs for a tick comes to a position, or to the end of its steps.
+unfoldable pub reached : Task → Job → ℕ
+reached task j = if j .pending then j .position else length (task .steps)
+
+unfoldable pub afterTick : (i : ℕ) → Task → (before after : Job) → List ℕ → List ℕ
+afterTick i task before after hs = afterSteps i (take (reached task after - before .position) (drop (before .position) (task .steps))) hs

@@ -3,14 +3,14 @@ ghost use mathlib.Core.Path.{_≡_};
 ghost use mathlib.Core.List.{[]};
 ghost use mathlib.Core.Bool.{false};
 ghost use Prim.Native.Nat.{ℕ, _-_, _≤_, _<_};
-ghost use lib.ListN.{length, take, drop};
+ghost use lib.ListN.{take, drop};
 ghost use Rattle.rules.specs.Words.{_<?_, row, any};
 ghost use Rattle.rules.specs.Sheet.{isRun, isLock};
 ghost use Rattle.rules.specs.Record.{recordAt};
 ghost use Rattle.rules.specs.Choice.{runnerByte, ceiling, goes, topJob, walk, runner};
 ghost use Rattle.table.specs.Table.{here, taskOf, sheetOf, Lies, Tabled};
 ghost use Rattle.choice.specs.Steps.{runHere, lockHere};
-ghost use Rattle.choice.specs.Holders.{Choosable, holders, semaphoreOf, entryAfter, afterSteps, afterJob};
+ghost use Rattle.choice.specs.Holders.{Choosable, holders, semaphoreOf, entryAfter, afterSteps, afterJob, afterTick};
 ghost use Rattle.choice.specs.Way.{nearer, nearest};
 use rules::Job;
 use rules::State;
@@ -100,6 +100,20 @@ pub fn holders_of(s: &[u8], table: Table, st: State) -> [u8; 16]
     hs
 }
 
+// The holders after the tick of a runner of rank i, from those before it and its job before and after.
+pub fn holders_after(s: &[u8], e: Entry, i: u8, before: Job, after: Job, hs: [u8; 16]) -> [u8; 16]
+    requires { ⌜ Lies (now s) e ⌝ }
+    ensures { λ r. ⌜ r ≡ afterTick i (taskOf (now (s .entry)) e) before after hs ⌝ }
+{
+    let from = before.position as usize;
+    if after.pending {
+        let to = after.position as usize;
+        return after_steps(s, e, from, to, i, hs);
+    }
+    let end = e.count as usize;
+    after_steps(s, e, from, end, i, hs)
+}
+
 // What is in the way of job i: a semaphore with ceiling c and holder h, or what was so far.
 fn nearer_of(i: u8, c: u8, h: u8, w: Way) -> Way
     ensures { λ r. ⌜ r ≡ nearer i c h w ⌝ }
@@ -143,6 +157,7 @@ fn is_free(i: u8, w: Way) -> bool
     i < w.ceiling
 }
 
+// The kinds of a step that rule 3 asks for.
 fn is_run(x: Here) -> bool
     ensures { λ r. ⌜ r ≡ runHere x ⌝ }
 {
@@ -234,21 +249,10 @@ fn goes_barred(s: &[u8], mode: u8, e: Entry, j: Job) -> bool
     }
 }
 
-// Rule 3.
-fn may_go(s: &[u8], mode: u8, e: Entry, j: Job, free: bool) -> bool
-    requires { ⌜ Lies (now s) e ⌝ }
-    ensures { λ r. ⌜ r ≡ goes mode (taskOf (now (s .entry)) e) j free ⌝ }
-{
-    if free {
-        return true;
-    }
-    goes_barred(s, mode, e, j)
-}
-
 // Rule 4: the pending job of smallest rank, 255 if none is.
 fn top_job(n: usize, st: State) -> u8
     requires { ⌜ n ≤ 16 ⌝ }
-    requires { ⌜ ((i : ℕ) → n ≤ i → recordAt (st .tasks) i .job .pending ≡ false) ⌝ }
+    requires { ⌜ ((i : ℕ) → i < 16 → n ≤ i → recordAt (st .tasks) i .job .pending ≡ false) ⌝ }
     ensures { λ r. ⌜ r ≡ topJob (st .tasks) ⌝ }
 {
     let mut i: usize = 0;
@@ -281,9 +285,11 @@ fn walked(s: &[u8], table: Table, cs: [u8; 16], hs: [u8; 16], st: State, from: u
         let e = entry_at(table, i);
         let r = st.tasks[i];
         let j = r.job;
+        if goes_barred(s, mode, e, j) {
+            return c;
+        }
         let w = way_of(c, m, cs, hs);
-        let free = is_free(c, w);
-        if may_go(s, mode, e, j, free) {
+        if is_free(c, w) {
             return c;
         }
         c = w.holder;
@@ -292,7 +298,23 @@ fn walked(s: &[u8], table: Table, cs: [u8; 16], hs: [u8; 16], st: State, from: u
     254
 }
 
-// The runner of a tick, from the state after its releases.
+// The runner of a tick, from the state after its releases and the holders.
+pub fn runner_with(s: &[u8], table: Table, cs: [u8; 16], hs: [u8; 16], st: State) -> u8
+    requires { ⌜ Tabled (now s) table ⌝ }
+    requires { ⌜ cs ≡ row 16 (ceiling (sheetOf (now s) table)) ⌝ }
+    requires { ⌜ hs ≡ holders (sheetOf (now s) table) (st .tasks) ⌝ }
+    requires { ⌜ Choosable (sheetOf (now s) table) (st .tasks) ⌝ }
+    ensures { λ r. ⌜ r ≡ runnerByte (runner (sheetOf (now (s .entry)) table) (st .tasks)) ⌝ }
+{
+    let n = table.n as usize;
+    let top = top_job(n, st);
+    if top == 255 {
+        return 255;
+    }
+    walked(s, table, cs, hs, st, top)
+}
+
+// The same with no holders at hand. They are found only where the pending job of smallest rank does not go in any case.
 pub fn runner_of(s: &[u8], table: Table, cs: [u8; 16], st: State) -> u8
     requires { ⌜ Tabled (now s) table ⌝ }
     requires { ⌜ cs ≡ row 16 (ceiling (sheetOf (now s) table)) ⌝ }

@@ -1,17 +1,16 @@
 -- Laws of the tick's effect: the step at a position, a record and its rank, the sixteen records.
-use Prim.Native.Nat.{ℕ, zero, suc, _+_, _-_, _%_, _≤_, _<_, max}
+use Prim.Native.Nat.{ℕ, suc, _+_, _-_, _%_, _≤_, _<_, max}
 use mathlib.Core.Path.{_≡_, refl, sym, ap, _∙_}
 use mathlib.Core.Logic.{⊎-elim}
 use mathlib.Core.List.{List, [], _∷_}
-use mathlib.Core.Bool.{Bool, true, false, not, _||_}
+use mathlib.Core.Bool.{Bool, true, false, _||_}
 use native.Mathlib.Omega.{arith}
-use native.Mathlib.Numerals.{add-one}
 use lib.Dec.{eqb}
 use lib.ListN.{length, getD, take, drop, set, length-set, length-drop}
 use lib.Seq.{drop-drop, ext-getD, getD-set-same, getD-set-other}
 use borrow.Author.Tests.{lt-ltb, le-ltb, le-leb, lt-leb, eq-eqb, ne-eqb, eqb-true, eqb-false}
-use Rattle.rules.specs.Words.{if_then_else_, _<?_, _=?_, row, any, leading}
-use Rattle.rules.specs.Sheet.{Step, run, lock, unlock, Task, Sheet, taskAt, isLock, isUnlock}
+use Rattle.rules.specs.Words.{if_then_else_, _<?_, _=?_, any, leading}
+use Rattle.rules.specs.Sheet.{Step, run, lock, unlock, Task, taskAt, isLock, isUnlock}
 use Rattle.rules.specs.Record.{noJob, blank, recordAt, ahead}
 use Rattle.rules.specs.Choice.{full, Runner, job, stuck, idle, runnerByte}
 use Rattle.rules.specs.Tick.{standing, releasesUp, missesUp, ranUp, blockedUp, completionsUp, releasesAt, released, afterReleases, nextRun, leftOfRun, behindUnlocks, advanced, spent, afterRunner, closed}
@@ -26,7 +25,7 @@ use Rattle.table.specs.declared.Entry.{Entry}
 use Rattle.table.specs.declared.Table.{Table}
 use Rattle.table.specs.declared.Here.{Here}
 use Rattle.table.proofs.Laws.{entry-in, task-at, tasks-count}
-use Rattle.effect.specs.Effect.{withTasks, runnerOf, CountsBelow, AllBelow, changedBelow, blockedOnce, eachBlocked}
+use Rattle.effect.specs.Effect.{withTasks, runnerOf, changedBelow, blockedOnce, eachBlocked}
 
 -- what the first of some steps says: the ticks left on coming to it, whether it is a lock, whether it is an unlock
 unfoldable pub leftHere : Here → ℕ

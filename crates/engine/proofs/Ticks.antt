@@ -1,9 +1,9 @@
 -- Laws of a tick and of a run: what each part of a tick asks, and one tick more.
-use Prim.Native.Nat.{ℕ, zero, suc, _+_, _≤_, _<_}
+use Prim.Native.Nat.{ℕ, suc, _+_, _≤_, _<_}
 use mathlib.Core.Path.{_≡_, refl, sym, ap, _∙_, subst}
 use mathlib.Core.Logic.{⊎-elim}
 use mathlib.Core.List.{List, [], _∷_, _++_, append-assoc}
-use mathlib.Core.Bool.{Bool, true, false, _&&_}
+use mathlib.Core.Bool.{true, false, _&&_}
 use native.Mathlib.Omega.{arith}
 use native.Mathlib.Numerals.{add-one}
 use lib.ListN.{length, getD, set, drop, List·getD-eq-default}
@@ -12,7 +12,7 @@ use Rattle.rules.specs.Words.{_≤?_, every, row}
 use Rattle.rules.specs.Sheet.{Sheet}
 use Rattle.rules.specs.Reading.{read, readSheet}
 use Rattle.rules.specs.Record.{blank, start, recordAt, runnerFits, recordFits, noneHeldByTwo, possible}
-use Rattle.rules.specs.Choice.{Runner, job, stuck, idle, runnerByte, runner}
+use Rattle.rules.specs.Choice.{Runner, job, runnerByte, runner}
 use Rattle.rules.specs.Tick.{afterReleases, afterRunner, closed, tick}
 use Rattle.rules.specs.Run.{after, trace, written}
 use Rattle.rules.specs.declared.TaskRecord.{TaskRecord}
@@ -20,11 +20,11 @@ use Rattle.rules.specs.declared.State.{State}
 use Rattle.rules.proofs.Laws.{below, and-right, length-row}
 use Rattle.rules.proofs.Possible.{Possible, possible-parts}
 use Rattle.rules.proofs.Walk.{runner-runs}
-use Rattle.rules.proofs.Kept.{Rising, startPossible, released-rising, released-past, after-time, after-possible}
+use Rattle.rules.proofs.Kept.{startPossible, released-rising, released-past, after-time, after-possible}
 use Rattle.choice.specs.Holders.{Choosable}
-use Rattle.effect.specs.Effect.{withTasks, runnerOf, CountsBelow, AllBelow}
+use Rattle.choice.proofs.Moves.{choosable as choosable-released}
+use Rattle.effect.specs.Effect.{withTasks, runnerOf, AllBelow}
 use Rattle.effect.proofs.Laws.{byte-back}
-use Rattle.effect.proofs.Held.{two-released}
 
 -- a possible state has room to count on, before the releases and after them, and leaves the choice nothing open
 module _ (bytes : List ℕ) (sheet : Sheet) (e : readSheet bytes ≡ read sheet) (st : State) (p : possible sheet st ≡ true) (early : st .t < 60000) where
@@ -60,19 +60,8 @@ module _ (bytes : List ℕ) (sheet : Sheet) (e : readSheet bytes ≡ read sheet)
           blocked = omega (arith, f .blocked);
         }
 
-    past-pending : (i : ℕ) → length (sheet .tasks) ≤ i → recordAt (afterReleases sheet st) i .job .pending ≡ false
-    unfolding recordAt afterReleases
-    past-pending i h = ⊎-elim
-        (λ (l : i < 16). ap (λ (r : TaskRecord). r .job .pending) (released-past bytes sheet e st parts i l h))
-        (λ (l : 16 ≤ i). let n : length (afterReleases sheet st) ≡ 16 = length-row 16 _ in ap (λ (r : TaskRecord). r .job .pending) (List·getD-eq-default (afterReleases sheet st) blank (omega arith)))
-        (below i 16)
-
     pub choosable : Choosable sheet (a .tasks)
-    unfolding possible
-    choosable = subst (Choosable sheet) (sym records) record {
-      few = past-pending;
-      single = two-released sheet st ∙ and-right (st .t ≤? 60000 && st .switches ≤? st .t && runnerFits (length (sheet .tasks)) (st .last) && every 16 (λ i. recordFits sheet (st .t) i (recordAt (st .tasks) i))) (noneHeldByTwo sheet (st .tasks)) p;
-    }
+    choosable = subst (Choosable sheet) (sym records) (choosable-released bytes sheet e st parts)
 
 -- the parts of a tick are the tick
 pub tick-parts : (sheet : Sheet) (st a b r : State) (x : ℕ) → a ≡ withTasks st (afterReleases sheet st) → x ≡ runnerByte (runner sheet (a .tasks))

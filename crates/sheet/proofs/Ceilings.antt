@@ -8,13 +8,12 @@ use native.Mathlib.Omega.{arith}
 use native.Mathlib.Numerals.{add-one}
 use lib.ListN.{length, getD, set, take, drop, replicate, length-set, List·getD-eq-default}
 use lib.Seq.{take-length, ext-getD, getD-set-same, getD-set-other}
-use borrow.Author.Tests.{lt-ltb, le-ltb, eq-eqb, ne-eqb, eqb-true, eqb-false}
+use borrow.Author.Tests.{lt-ltb, le-ltb, eqb-true, eqb-false}
 use Rattle.rules.specs.Words.{if_then_else_, _<?_, _=?_, any, smallest, row}
 use Rattle.rules.specs.Sheet.{Step, run, lock, unlock, Task, Sheet, noTask, taskAt, isLockOf}
-use Rattle.rules.specs.Reading.{read, readSheet}
 use Rattle.rules.specs.Choice.{locks, ceiling}
 use Rattle.rules.specs.Laws.{All, StepLimits}
-use Rattle.rules.proofs.Laws.{sure, below, length-row, row-at, smallest-found, smallest-le, smallest-is, smallest-none, Found}
+use Rattle.rules.proofs.Laws.{sure, length-row, row-at, smallest-found, smallest-le, smallest-is, smallest-none, Found}
 use Rattle.rules.proofs.Limits.{acceptedWithinLimits}
 use Rattle.rules.proofs.Possible.{all-drop}
 use Rattle.table.specs.Table.{here, taskOf, entryOf, sheetOf, Tabled}

@@ -1,15 +1,14 @@
 -- The head of a sheet, test by test.
 use Prim.Native.Nat.{ℕ, _≤_, _<_}
-use mathlib.Core.Path.{_≡_, refl, sym, ap, _∙_}
+use mathlib.Core.Path.{_≡_, refl, ap}
 use mathlib.Core.List.{List}
 use mathlib.Core.Bool.{Bool, true, false, not}
 use lib.ListN.{length}
 use borrow.Author.Tests.{lt-ltb, le-ltb, eq-eqb, ne-eqb}
 use Rattle.rules.specs.Words.{_=?_, within}
-use Rattle.rules.specs.Reading.{Reading, read, refused, refusal, _>>=_, refuse_of_at_when_, byte, word}
+use Rattle.rules.specs.Reading.{read, refused, refusal, _>>=_, refuse_of_at_when_, byte, word}
 use Rattle.rules.specs.declared.Refusal.{Refusal}
 use Rattle.sheet.specs.Reader.{marked, readHead}
-use Rattle.sheet.specs.declared.Head.{Head}
 
 module _ (s : List ℕ) where
   pub mark-1 : (byte s 0 ≡ 0x4C → ⊥) → false ≡ marked s

@@ -8,12 +8,12 @@ use native.Mathlib.Numerals.{add-one}
 use lib.ListN.{length, getD, set, take, length-set}
 use lib.Seq.{getD-set-same, getD-set-other}
 use borrow.Author.Tests.{eq-eqb, ne-eqb, le-leb, lt-leb, leb-false, not-false}
-use Rattle.rules.specs.Words.{if_then_else_, _≤?_, _=?_, any, among}
+use Rattle.rules.specs.Words.{_≤?_, _=?_, any, among}
 use Rattle.rules.specs.Sheet.{Step, run, lock, unlock, isLock, without, heldOnTop, held}
 use Rattle.rules.specs.Reading.{stepOf, misplaced}
 use Rattle.rules.proofs.Laws.{true-false, or-no, or-right}
-use Rattle.rules.proofs.Nesting.{held-snoc, afterLock, after-snoc, without-newest, newest, or-too}
-use Rattle.sheet.specs.Nesting.{newestFirst, opened, Distinct, Nests, misplacedIn, nestBehind}
+use Rattle.rules.proofs.Nesting.{held-snoc, afterLock, after-snoc, Distinct, without-newest, newest, or-too}
+use Rattle.sheet.specs.Nesting.{newestFirst, opened, misplacedIn, nestBehind}
 use Rattle.sheet.specs.declared.Nest.{Nest}
 
 pub length-newest : (d : ℕ) (xs : List ℕ) → length (newestFirst d xs) ≡ d
@@ -127,7 +127,14 @@ module _ (q : Nest) (kind value : ℕ) where
   unfolding stepOf nestBehind
   nest-run u = rw (eq-eqb kind 1 u) refl
 
--- the nest of no steps
+-- the nest is that of the steps before: what they hold, no two the same, and whether the last of them is a lock
+pub record Nests (before : List Step) (q : Nest) : Type 0 where
+  pub opens : held before ≡ opened q
+  pub locks : any isLock (take 1 (reverse before)) ≡ q .locked
+  pub distinct : Distinct (opened q)
+  pub few : q .depth ≤ 4
+  pub sized : length (q .held) ≡ 4
+
 pub nests-none : Nests [] (record { held = 0 ∷ 0 ∷ 0 ∷ 0 ∷ []; depth = 0; locked = false })
 unfolding opened newestFirst held heldOnTop any
 nests-none = record { opens = refl; locks = refl; distinct = tt; few = omega arith; sized = refl }

@@ -1,28 +1,28 @@
 -- The sheet: its head, its tasks in turn, and 13.
-use Prim.Native.Nat.{ℕ, zero, suc, _+_, _-_, _*_, _≤_, _<_}
+use Prim.Native.Nat.{ℕ, suc, _+_, _-_, _*_, _≤_, _<_}
 use mathlib.Core.Path.{_≡_, refl, sym, ap, ap₂, _∙_, subst}
 use mathlib.Core.Logic.{⊎-elim}
 use mathlib.Core.List.{List, [], _∷_, _++_, append-assoc, append-nil}
-use mathlib.Core.Bool.{Bool, true, false, not}
+use mathlib.Core.Bool.{not}
 use native.Mathlib.Omega.{arith}
 use native.Mathlib.Numerals.{add-one}
-use lib.ListN.{length, getD, set, drop, replicate, length-drop, length-set}
+use lib.ListN.{length, getD, set, drop, length-drop, length-set}
 use lib.Seq.{getD-set-same, getD-set-other}
-use borrow.Author.Tests.{lt-ltb, le-ltb, le-leb, lt-leb, ltb-false}
-use Rattle.rules.specs.Words.{_<?_, _≤?_, _=?_, within, row}
+use borrow.Author.Tests.{le-leb, lt-leb, ltb-false}
+use Rattle.rules.specs.Words.{_<?_, _≤?_, within, row}
 use Rattle.rules.specs.Sheet.{Task, Sheet}
-use Rattle.rules.specs.Reading.{Reading, read, refused, refusal, _>>=_, refuse_of_at_when_, byte, word, readTask, readTasks, readSheet}
+use Rattle.rules.specs.Reading.{Reading, read, refused, refusal, _>>=_, refuse_of_at_when_, byte, readTasks, readSheet}
 use Rattle.rules.specs.Answers.{why}
 use Rattle.rules.proofs.Reading.{passed, got, within-to}
 use Rattle.rules.specs.Laws.{Given}
 use Rattle.rules.proofs.Numbers.{Numbered, sheet-numbered}
 use Rattle.rules.proofs.Laws.{below, and-at}
 use Rattle.rules.specs.declared.Refusal.{Refusal}
-use Rattle.table.specs.Table.{taskOf, noEntry, entryOf, sheetOf, Lies, Tabled}
+use Rattle.table.specs.Table.{taskOf, noEntry, entryOf, sheetOf, Lies}
 use Rattle.table.specs.declared.Entry.{Entry}
 use Rattle.table.specs.declared.Table.{Table}
 use Rattle.table.proofs.Laws.{entry-in, entry-out}
-use Rattle.sheet.specs.Reader.{marked, readHead, headIn, headRefusal, taskIn, taskRefusal, TaskFrom, noTable, turnedAway, ParsedFrom}
+use Rattle.sheet.specs.Reader.{marked, readHead, headIn, headRefusal, taskIn, taskRefusal, TaskFrom, noEntries, turnedAway, ParsedFrom}
 use Rattle.sheet.specs.declared.Head.{Head}
 use Rattle.sheet.specs.declared.HeadRead.{HeadRead}
 use Rattle.sheet.specs.declared.HeadRead.the-variants.{Begun, NoHead}
@@ -69,6 +69,15 @@ parsed-refused s x r e u =
       none = λ z. refl;
     })
 
+-- and what they say the other way: with a number, the sheet is refused
+pub parsed-away : (s : List ℕ) (r : Parsed) → ParsedFrom s r → (r .refusal .number ≡ 0 → ⊥) → readSheet s ≡ refused (r .refusal)
+unfolding why
+parsed-away s r π n = go (readSheet s) (π .reason)
+  where
+    go : (t : Reading Sheet) → r .refusal ≡ why t → t ≡ refused (r .refusal)
+    go (read sheet) e = absurd (n (ap (λ (x : Refusal). x .number) e))
+    go (refused x) e = ap refused (sym e)
+
 pub head-away : (s : List ℕ) (a : HeadRead) (y x : Refusal) (r : Parsed) → headIn a ≡ readHead s → a ≡ NoHead y → x ≡ headRefusal a → r ≡ turnedAway x → ParsedFrom s r
 unfolding _>>=_
 head-away s a y x r ea u v w =
@@ -106,9 +115,9 @@ unfolding _>>=_
 then-read (read x) = refl
 then-read (refused x) = refl
 
-pub taking-first : (s : List ℕ) (h : Head) → readHead s ≡ read h → Taking s h (replicate 16 noEntry) (h .next) 0
+pub taking-first : (s : List ℕ) (h : Head) (entries : List Entry) → readHead s ≡ read h → entries ≡ noEntries → Taking s h entries (h .next) 0
 unfolding taken row
-taking-first s h e =
+taking-first s h entries e u =
     let γ = head-good s h e in
     let z : h .n - 0 ≡ h .n = omega arith in
     record {
@@ -117,7 +126,7 @@ taking-first s h e =
       count = omega arith;
       inside = omega (arith, γ .long, γ .next);
       near = omega (arith, γ .next);
-      sized = refl;
+      sized = ap length u;
       lies = λ j l. absurd (omega arith);
       left = then-read _ ∙ ap (λ (k : ℕ). readTasks (h .semaphores) 0 k (drop (h .next) s) >>= λ x. read (x .0, x .1)) (sym z);
     }
@@ -148,9 +157,6 @@ module _ (s : List ℕ) (h : Head) (entries : List Entry) (p i : ℕ) (γ : Taki
         parsed-refused s x r (ap refused same ∙ sym (whole ∙ rw tasks refl)) w
 
     module _ (e : Entry) (next : ℕ) (u : a ≡ Opened e next) where
-      pub task-near : next ≤ p + 197
-      task-near = (rw u at (τ .lies)) .2
-
       pub taking-more : Taking s h (set entries i e) next (i + 1)
       unfolding _>>=_
       taking-more =

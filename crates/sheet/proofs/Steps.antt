@@ -1,6 +1,6 @@
 -- The steps of a task, by the cursor and the nest.
 use Prim.Native.Nat.{ℕ, zero, suc, _+_, _-_, _*_, _≤_, _<_}
-use mathlib.Core.Path.{_≡_, refl, sym, ap, ap₂, _∙_, subst}
+use mathlib.Core.Path.{_≡_, refl, sym, ap, ap₂, _∙_}
 use mathlib.Core.List.{List, [], _∷_, _++_}
 use mathlib.Core.Bool.{Bool, true, false, not}
 use native.Mathlib.Omega.{arith}
@@ -10,19 +10,19 @@ use lib.Seq.{drop-drop}
 use borrow.Author.Tests.{le-leb, lt-leb}
 use Rattle.rules.specs.Words.{_≤?_, row}
 use Rattle.rules.specs.Sheet.{Step, held}
-use Rattle.rules.specs.Reading.{Reading, read, refused, refusal, _>>=_, refuse_of_at_when_, byte, word, known, stepOf, misplaced, readSteps}
+use Rattle.rules.specs.Reading.{Reading, read, refused, refusal, _>>=_, refuse_of_at_when_, byte, word, known, stepOf, readSteps}
 use Rattle.rules.proofs.Laws.{length-row}
 use Rattle.rules.proofs.Reading.{passed, got}
 use Rattle.rules.specs.declared.Refusal.{Refusal}
 use Rattle.table.specs.Table.{stepAt, stepsAt}
 use Rattle.table.specs.declared.Entry.{Entry}
-use Rattle.sheet.specs.Nesting.{opened, Nests, misplacedIn, nestBehind}
-use Rattle.sheet.specs.Reader.{readStep, stepIn, stepRefusal, readStepsOf, entryIn}
+use Rattle.sheet.specs.Nesting.{misplacedIn, nestBehind}
+use Rattle.sheet.specs.Reader.{readStep, stepIn, stepRefusal, readStepsOf}
 use Rattle.sheet.specs.declared.StepRead.{StepRead}
 use Rattle.sheet.specs.declared.StepRead.the-variants.{Placed, NoStep}
 use Rattle.sheet.specs.declared.Nest.{Nest}
 use Rattle.sheet.proofs.Tests.{stops, goes-on, then-on, byte-first, word-from}
-use Rattle.sheet.proofs.Nesting.{length-opened, nests-none, misplaced-in, nests-more}
+use Rattle.sheet.proofs.Nesting.{length-opened, Nests, nests-none, misplaced-in, nests-more}
 
 -- one step: 11, 12, or placed
 module _ (s : List ℕ) (p m i k : ℕ) (q : Nest) (kind value : ℕ) (ek : kind ≡ byte s p) (ev : value ≡ word s (p + 1)) (b : Bool) (eb : b ≡ known m kind value) where

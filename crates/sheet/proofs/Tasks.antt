@@ -1,20 +1,20 @@
 -- A task: its head test by test, and the whole of it.
-use Prim.Native.Nat.{ℕ, zero, suc, _+_, _-_, _*_, _≤_, _<_}
-use mathlib.Core.Path.{_≡_, refl, sym, ap, ap₂, _∙_, subst}
-use mathlib.Core.List.{List, [], _∷_, _++_}
+use Prim.Native.Nat.{ℕ, _+_, _-_, _*_, _≤_, _<_}
+use mathlib.Core.Path.{_≡_, refl, sym, ap, _∙_, subst}
+use mathlib.Core.List.{List, []}
 use mathlib.Core.Bool.{Bool, true, false, not}
 use native.Mathlib.Omega.{arith}
 use lib.ListN.{length, drop, length-drop}
 use lib.Seq.{drop-drop}
-use borrow.Author.Tests.{lt-ltb, le-ltb, ltb-false}
+use borrow.Author.Tests.{lt-ltb, le-ltb}
 use Rattle.rules.specs.Words.{_<?_, within, row}
-use Rattle.rules.specs.Sheet.{Step, Task}
+use Rattle.rules.specs.Sheet.{Task}
 use Rattle.rules.specs.Reading.{Reading, read, refused, refusal, _>>=_, refuse_of_at_when_, byte, word, readSteps, readTask}
 use Rattle.rules.proofs.Reading.{both-read, passed, got, within-to}
 use Rattle.rules.specs.declared.Refusal.{Refusal}
 use Rattle.table.specs.Table.{stepsAt, taskOf, Lies}
 use Rattle.table.specs.declared.Entry.{Entry}
-use Rattle.sheet.specs.Reader.{readTaskHead, readStepsOf, entryIn, taskIn, LiesIn, TaskFrom}
+use Rattle.sheet.specs.Reader.{readTaskHead, readStepsOf, entryIn, TaskFrom}
 use Rattle.sheet.specs.declared.TaskRead.{TaskRead}
 use Rattle.sheet.specs.declared.TaskRead.the-variants.{Opened, NoTask}
 use Rattle.sheet.proofs.Tests.{then-on, short, byte-from, word-from, word-first}
@@ -102,9 +102,6 @@ module _ (m i : ℕ) (s : List ℕ) (p : ℕ) (a : TaskRead) (ea : entryIn a ≡
     behind-opened : readTask m i (drop p s) ≡ task-rest m i s (e, next)
     unfolding _>>=_
     behind-opened = behind-head ∙ ap (λ (r : TaskRead). entryIn r >>= task-rest m i s) u
-
-    pub few-steps : e .count ≤ 64
-    few-steps = head .few
 
     pub next-fits : next ≤ p + 5
     next-fits = omega (arith, head .behind)

@@ -2,7 +2,6 @@
 use Prim.Native.Nat.{ℕ, zero, suc, _<_}
 use mathlib.Core.Path.{_≡_}
 use mathlib.Core.List.{List}
-use mathlib.Core.Bool.{Bool, _&&_}
 use lib.ListN.{length, getD, set, drop}
 use Rattle.rules.specs.Words.{if_then_else_, _<?_, smallest, row}
 use Rattle.rules.specs.Sheet.{Task, Sheet, taskAt}

@@ -6,7 +6,7 @@ use mathlib.Core.List.{List, []}
 use mathlib.Core.Bool.{Bool, not, _&&_}
 use lib.ListN.{length, drop, replicate}
 use Rattle.rules.specs.Words.{_<?_, _=?_, within}
-use Rattle.rules.specs.Sheet.{Task, Sheet}
+use Rattle.rules.specs.Sheet.{Task}
 use Rattle.rules.specs.Reading.{Reading, read, refused, refusal, refuse_when_, refuse_of_when_, refuse_of_at_when_, _>>=_, _>>_, byte, word, known, stepOf, readSteps, readTask, readSheet}
 use Rattle.rules.specs.Answers.{why}
 use Rattle.rules.specs.declared.Refusal.{Refusal}
@@ -106,13 +106,17 @@ pub record TaskFrom (m i : ℕ) (bytes : List ℕ) (place : ℕ) (r : TaskRead) 
   pub reads : taskIn bytes r ≡ readTask m i (drop place bytes)
   pub lies : LiesIn bytes place r
 
--- The sheet: why it is refused, or its table; on a refusal the table is zero.
+-- On a refusal the table is zero.
+abbrev pub noEntries : List Entry
+noEntries = replicate 16 noEntry
+
 abbrev pub noTable : Table
-noTable = record { n = 0; semaphores = 0; mode = 0; entries = replicate 16 noEntry }
+noTable = record { n = 0; semaphores = 0; mode = 0; entries = noEntries }
 
 abbrev pub turnedAway : Refusal → Parsed
 turnedAway x = record { refusal = x; table = noTable }
 
+-- The sheet: why it is refused, or its table.
 pub record ParsedFrom (bytes : List ℕ) (r : Parsed) : Type 0 where
   pub reason : r .refusal ≡ why (readSheet bytes)
   pub tabled : r .refusal .number ≡ 0 → Tabled bytes (r .table)

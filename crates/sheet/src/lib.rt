@@ -10,7 +10,7 @@ ghost use Rattle.rules.specs.Reading.{read, refusal, stepOf, known};
 ghost use Rattle.table.specs.Table.{taskOf, sheetOf, Lies, Tabled};
 ghost use Rattle.sheet.specs.Ceilings.{LockFits, LocksFit, withStep, withTask};
 ghost use Rattle.sheet.specs.Nesting.{opened, misplacedIn, nestBehind};
-ghost use Rattle.sheet.specs.Reader.{marked, readHead, headIn, headRefusal, readStep, stepIn, stepRefusal, readTaskHead, readStepsOf, entryIn, taskRefusal, TaskFrom, turnedAway, ParsedFrom};
+ghost use Rattle.sheet.specs.Reader.{marked, readHead, headIn, headRefusal, readStep, stepIn, stepRefusal, readTaskHead, readStepsOf, entryIn, taskRefusal, TaskFrom, noEntries, turnedAway, ParsedFrom};
 use rules::Refusal;
 use table::Entry;
 use table::Here;
@@ -101,14 +101,14 @@ fn read_head(s: &[u8]) -> HeadRead
         return HeadRead::NoHead(refusal(3, 0, 0));
     }
     let n = s[5];
+    let m = s[6];
+    let mode = s[7];
     if !within(1, 16, n as u16) {
         return HeadRead::NoHead(refusal(4, 0, 0));
     }
-    let m = s[6];
     if 16 < m {
         return HeadRead::NoHead(refusal(5, 0, 0));
     }
-    let mode = s[7];
     if 1 < mode {
         return HeadRead::NoHead(refusal(6, 0, 0));
     }
@@ -118,6 +118,19 @@ fn read_head(s: &[u8]) -> HeadRead
         mode: mode,
         next: 8,
     })
+}
+
+// 11: a step's kind unknown or its value out of range.
+fn is_known(m: u8, kind: u8, value: u16) -> bool
+    ensures { λ r. ⌜ r ≡ known m kind value ⌝ }
+{
+    if kind == 1 {
+        return within(1, 1000, value);
+    }
+    if !within(2, 3, kind as u16) {
+        return false;
+    }
+    value < (m as u16)
 }
 
 // Is a semaphore locked by an open section?
@@ -182,19 +195,6 @@ fn nested(nest: Nest, kind: u8, value: u16) -> Nest
     q
 }
 
-// 11: a step's kind unknown or its value out of range.
-fn is_known(m: u8, kind: u8, value: u16) -> bool
-    ensures { λ r. ⌜ r ≡ known m kind value ⌝ }
-{
-    if kind == 1 {
-        return within(1, 1000, value);
-    }
-    if !within(2, 3, kind as u16) {
-        return false;
-    }
-    value < (m as u16)
-}
-
 // Step k of task i: 11 before 12.
 fn read_step(s: &[u8], at: usize, m: u8, i: u8, k: u8, nest: Nest) -> StepRead
     requires { ⌜ at + 3 ≤ length (now s) ⌝ }
@@ -212,6 +212,7 @@ fn read_step(s: &[u8], at: usize, m: u8, i: u8, k: u8, nest: Nest) -> StepRead
     StepRead::Placed(kind, value)
 }
 
+// The refusal that an answer is, for the branch of a let-else that does not bind it.
 fn step_refusal(a: StepRead) -> Refusal
     ensures { λ r. ⌜ r ≡ stepRefusal a ⌝ }
 {
@@ -306,9 +307,8 @@ fn task_refusal(a: TaskRead) -> Refusal
     }
 }
 
-// A refusal leaves the table zero.
-fn refused(x: Refusal) -> Parsed
-    ensures { λ r. ⌜ r ≡ turnedAway x ⌝ }
+fn no_entries() -> [Entry; 16]
+    ensures { λ r. ⌜ r ≡ noEntries ⌝ }
 {
     let none = Entry {
         period: 0,
@@ -316,11 +316,20 @@ fn refused(x: Refusal) -> Parsed
         at: 0,
         count: 0,
     };
+    let entries = [none; 16];
+    entries
+}
+
+// A refusal leaves the table zero.
+fn refused(x: Refusal) -> Parsed
+    ensures { λ r. ⌜ r ≡ turnedAway x ⌝ }
+{
+    let none = no_entries();
     let table = Table {
         n: 0,
         semaphores: 0,
         mode: 0,
-        entries: [none; 16],
+        entries: none,
     };
     Parsed {
         refusal: x,
@@ -333,13 +342,7 @@ fn read_tasks(s: &[u8], h: Head) -> Parsed
     requires { ⌜ readHead (now s) ≡ read h ⌝ }
     ensures { λ r. ⌜ ParsedFrom (now (s .entry)) r ⌝ }
 {
-    let none = Entry {
-        period: 0,
-        offset: 0,
-        at: 0,
-        count: 0,
-    };
-    let mut entries = [none; 16];
+    let mut entries = no_entries();
     let n = h.n;
     let m = h.semaphores;
     let mut at = h.next;

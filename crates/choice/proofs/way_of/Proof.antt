@@ -1,7 +1,7 @@
 use borrow.Author.Needs.{needs}
 use native.Mathlib.Omega.{arith}
-use Prim.Native.Nat.{ℕ, _≤_, _-_}
-use mathlib.Core.Path.{_≡_, _∙_, refl, ap}
+use Prim.Native.Nat.{_≤_, _-_}
+use mathlib.Core.Path.{_≡_, refl}
 use Rattle.choice.specs.Way.{nearest}
 use Rattle.choice.proofs.Ways.{nearest-more, nearest-all}
 use Rattle.choice.proofs.way_of.Statement.{statement}

@@ -1,20 +1,16 @@
-use Rattle.rules.specs.Record.{recordAt}
-use Rattle.table.proofs.Laws.{entry-in, lies-from}
-use Rattle.effect.proofs.Laws.{releasing, releases-none, releases-all, releases-here, releases-more, releases-no, period-from}
-use borrow.Author.Needs.{needs}
-use native.Mathlib.Omega.{arith}
-use mathlib.Core.Path.{_≡_, _∙_, refl, ap, sym}
+use Prim.Native.Nat.{ℕ, _≤_, _-_}
+use mathlib.Core.Path.{_≡_, _∙_, ap, sym}
 use mathlib.Core.Logic.{⊎-elim}
+use native.Mathlib.Omega.{arith}
 use lib.ListN.{length-map}
 use denote.Ref.{now}
-use Prim.Native.Nat.{ℕ, _≤_, _-_}
+use borrow.Author.Needs.{needs}
+use Rattle.rules.specs.Record.{recordAt}
+use Rattle.table.proofs.Laws.{entry-in, lies-from}
 use Rattle.effect.specs.Effect.{withTasks, changedBelow}
+use Rattle.effect.proofs.Laws.{releasing, releases-none, releases-all, releases-here, releases-more, releases-no, period-from}
 use Rattle.effect.proofs.after_releases.Statement.{statement}
 use Rattle.effect.proofs.after_releases.Tie as tie
-use Rattle.effect.proofs.after_releases.Reads as reads
-use Rattle.effect.proofs.after_releases.Lts as lts
-use Rattle.effect.proofs.released.Reads as released-reads
-use Rattle.effect.proofs.releases_at.Reads as releases-at-reads
 
 abbrev Inv-loop : tie.InvT-loop
 Inv-loop s table next₀ t n i₀ next i = (i ≤ n) × (next ≡ withTasks next₀ (changedBelow i (releasing s table t) (next₀ .tasks)))
@@ -22,39 +18,31 @@ Inv-loop s table next₀ t n i₀ next i = (i ≤ n) × (next ≡ withTasks next
 abbrev μ-loop : tie.MeasureT-loop
 μ-loop s table next₀ t n i₀ next i = n - i
 
--- src/lib.rt:138:13
 cast-n : tie.Need-cast-n Inv-loop μ-loop
 cast-n c = search needs
 
--- src/lib.rt:140:5
 loop-holds : tie.Need-loop-holds Inv-loop μ-loop
 loop-holds c =
     let b = c .before in
     (omega arith, releases-none (now (b .args .s)) (b .args .t2) (b .args .st) (sym (length-map (b .args .st .tasks) _) ∙ b .good .1 .1 .0 .1 .1 .1 .1 .1 .0 .1 .0 .1))
 
--- src/lib.rt:141:17
 mul-e : tie.Need-mul-e Inv-loop μ-loop
 mul-e c = omega arith
 
--- src/lib.rt:141:17
 element-copy-out-e : tie.Need-element-copy-out-e Inv-loop μ-loop
 element-copy-out-e c = omega arith
 
--- src/lib.rt:142:12
 releases-at-requires : tie.Need-releases-at-requires Inv-loop μ-loop
 releases-at-requires c κs =
     let b = c .before .before .before .before in
     period-from (now (b .args .s)) (b .args .t2) (b .pre .0) (c .before .before .loop .i) (omega arith)
 
--- src/lib.rt:143:21
 mul-r : tie.Need-mul-r Inv-loop μ-loop
 mul-r c = omega arith
 
--- src/lib.rt:143:21
 element-copy-out-r : tie.Need-element-copy-out-r Inv-loop μ-loop
 element-copy-out-r c = omega arith
 
--- src/lib.rt:144:17
 released-requires : tie.Need-released-requires Inv-loop μ-loop
 unfolding recordAt
 released-requires c κs =
@@ -66,23 +54,18 @@ released-requires c κs =
       (rw here (b .pre .1 (l .i) (omega arith)), sym (c .before .before .releases-at .ensures (now (b .args .s))) ∙ c .before .if1 .taken),
     )
 
--- src/lib.rt:145:13
 mul-q : tie.Need-mul-q Inv-loop μ-loop
 mul-q c = omega arith
 
--- src/lib.rt:145:13
 element-set-from-q : tie.Need-element-set-from-q Inv-loop μ-loop
 element-set-from-q c = omega arith
 
--- src/lib.rt:147:9
 add-i : tie.Need-add-i Inv-loop μ-loop
 add-i c = omega arith
 
--- src/lib.rt:140:5
 loop-less : tie.Need-loop-less Inv-loop μ-loop
 loop-less c = omega arith
 
--- src/lib.rt:140:5
 loop-again : tie.Need-loop-again Inv-loop μ-loop
 unfolding recordAt
 loop-again c =
@@ -96,7 +79,6 @@ loop-again c =
           (c .if1 .came),
     )
 
--- src/lib.rt:131:1
 returns : tie.Need-returns Inv-loop μ-loop
 returns c =
     let b = c .before .before .before in

@@ -1,41 +1,30 @@
-use Rattle.rules.specs.Record.{recordAt}
-use Rattle.effect.proofs.Laws.{blocked-here, ran-nobody, ran-job}
-use Rattle.table.proofs.Laws.{lies-from}
+use mathlib.Core.Path.{sym, _∙_}
 use lib.ListN.{length-map}
 use denote.Ref.{now}
-use mathlib.Core.Path.{sym, _∙_}
 use borrow.Author.Needs.{needs}
+use Rattle.rules.specs.Record.{recordAt}
+use Rattle.table.proofs.Laws.{lies-from}
+use Rattle.effect.proofs.Laws.{blocked-here, ran-nobody, ran-job}
 use Rattle.effect.proofs.after_runner.Statement.{statement}
 use Rattle.effect.proofs.after_runner.Tie as tie
-use Rattle.effect.proofs.after_runner.Reads as reads
-use Rattle.effect.proofs.after_runner.Lts as lts
-use Rattle.effect.proofs.blocked_above.Reads as blocked-above-reads
-use Rattle.effect.proofs.ran.Reads as ran-reads
-use Rattle.table.proofs.entry_at.Reads as entry-at-reads
 
--- src/lib.rt:327:9
 returns : tie.Need-returns
 returns c =
     let b = c .before .before in
     ran-nobody _ _ (b .args .st) _ (c .if1 .taken) (sym (length-map (b .args .st .tasks) _) ∙ b .good .1 .1 .1 .0 .1 .1 .1 .1 .1 .0 .1 .0 .1)
 
--- src/lib.rt:330:9
 entry-at-requires : tie.Need-entry-at-requires
 entry-at-requires c κs = search needs
 
--- src/lib.rt:331:20
 blocked-above-requires : tie.Need-blocked-above-requires
 blocked-above-requires c κs = search needs
 
--- src/lib.rt:332:13
 mul-r : tie.Need-mul-r
 mul-r c = search needs
 
--- src/lib.rt:332:13
 element-copy-out-r : tie.Need-element-copy-out-r
 element-copy-out-r c = search needs
 
--- src/lib.rt:333:9
 ran-requires : tie.Need-ran-requires
 unfolding recordAt
 ran-requires c κs =
@@ -45,15 +34,12 @@ ran-requires c κs =
     let here = blocked-here (b .args .st) (above .result) (b .args .x) (above .ensures) (c .before .before .before .if1 .left) in
     (lies-from (now (b .args .s)) (b .args .table) (b .args .x) (entry .result) (b .pre .0) (entry .ensures), (rw here (b .pre .1 .0 (b .args .x) (c .before .before .before .if1 .left)), b .pre .1 .1))
 
--- src/lib.rt:334:5
 mul-q : tie.Need-mul-q
 mul-q c = search needs
 
--- src/lib.rt:334:5
 element-set-from-q : tie.Need-element-set-from-q
 element-set-from-q c = search needs
 
--- src/lib.rt:320:1
 returns-2 : tie.Need-returns-2
 unfolding recordAt
 returns-2 c =

@@ -1,48 +1,36 @@
+use borrow.Author.Needs.{needs}
 use Rattle.table.specs.declared.Here.{Here}
 use Rattle.effect.proofs.Laws.{lockHere, lock-told}
-use borrow.Author.Needs.{needs}
 use Rattle.effect.proofs.at_lock.Statement.{statement}
 use Rattle.effect.proofs.at_lock.Tie as tie
-use Rattle.effect.proofs.at_lock.Reads as reads
-use Rattle.effect.proofs.at_lock.Lts as lts
-use Rattle.table.proofs.step_at.Reads as step-at-reads
 
--- src/lib.rt:159:9
 step-at-requires : tie.Need-step-at-requires
 step-at-requires c κs = search needs
 
--- src/lib.rt:161:25
 enum-told : tie.Need-enum-told
 enum-told c = search needs
 
--- src/lib.rt:162:26
 enum-told-2 : tie.Need-enum-told-2
 enum-told-2 c = search needs
 
--- src/lib.rt:163:28
 enum-told-3 : tie.Need-enum-told-3
 enum-told-3 c = search needs
 
--- src/lib.rt:164:22
 enum-told-4 : tie.Need-enum-told-4
 enum-told-4 c = search needs
 
--- src/lib.rt:155:1
 returns : tie.Need-returns
 unfolding lockHere
 returns c = lock-told _ _ (Here.Run _) (c .before .before .step-at .ensures) (c .enum-told .given .1)
 
--- src/lib.rt:155:1
 returns-2 : tie.Need-returns-2
 unfolding lockHere
 returns-2 c = lock-told _ _ (Here.Lock _) (c .before .before .step-at .ensures) (c .enum-told2 .given .1)
 
--- src/lib.rt:155:1
 returns-3 : tie.Need-returns-3
 unfolding lockHere
 returns-3 c = lock-told _ _ (Here.Unlock _) (c .before .before .step-at .ensures) (c .enum-told3 .given .1)
 
--- src/lib.rt:155:1
 returns-4 : tie.Need-returns-4
 unfolding lockHere
 returns-4 c = lock-told _ _ (Here.End) (c .before .before .step-at .ensures) (c .enum-told4 .given .1)

@@ -1,48 +1,36 @@
+use borrow.Author.Needs.{needs}
 use Rattle.table.specs.declared.Here.{Here}
 use Rattle.effect.proofs.Laws.{unlockHere, unlock-told}
-use borrow.Author.Needs.{needs}
 use Rattle.effect.proofs.at_unlock.Statement.{statement}
 use Rattle.effect.proofs.at_unlock.Tie as tie
-use Rattle.effect.proofs.at_unlock.Reads as reads
-use Rattle.effect.proofs.at_unlock.Lts as lts
-use Rattle.table.proofs.step_at.Reads as step-at-reads
 
--- src/lib.rt:185:9
 step-at-requires : tie.Need-step-at-requires
 step-at-requires c κs = search needs
 
--- src/lib.rt:187:25
 enum-told : tie.Need-enum-told
 enum-told c = search needs
 
--- src/lib.rt:188:26
 enum-told-2 : tie.Need-enum-told-2
 enum-told-2 c = search needs
 
--- src/lib.rt:189:28
 enum-told-3 : tie.Need-enum-told-3
 enum-told-3 c = search needs
 
--- src/lib.rt:190:22
 enum-told-4 : tie.Need-enum-told-4
 enum-told-4 c = search needs
 
--- src/lib.rt:181:1
 returns : tie.Need-returns
 unfolding unlockHere
 returns c = unlock-told _ _ (Here.Run _) (c .before .before .step-at .ensures) (c .enum-told .given .1)
 
--- src/lib.rt:181:1
 returns-2 : tie.Need-returns-2
 unfolding unlockHere
 returns-2 c = unlock-told _ _ (Here.Lock _) (c .before .before .step-at .ensures) (c .enum-told2 .given .1)
 
--- src/lib.rt:181:1
 returns-3 : tie.Need-returns-3
 unfolding unlockHere
 returns-3 c = unlock-told _ _ (Here.Unlock _) (c .before .before .step-at .ensures) (c .enum-told3 .given .1)
 
--- src/lib.rt:181:1
 returns-4 : tie.Need-returns-4
 unfolding unlockHere
 returns-4 c = unlock-told _ _ (Here.End) (c .before .before .step-at .ensures) (c .enum-told4 .given .1)

@@ -1,17 +1,13 @@
-use Rattle.rules.specs.Record.{recordAt}
-use Rattle.effect.proofs.Laws.{changed-none, blocked-here, blocked-yes, blocked-more, blocked-no}
-use borrow.Author.Needs.{needs}
-use native.Mathlib.Omega.{arith}
-use mathlib.Core.Path.{_≡_, _∙_, refl, ap, sym}
-use mathlib.Core.Logic.{⊎-elim}
-use lib.ListN.{length-map}
 use Prim.Native.Nat.{ℕ, _≤_, _-_}
+use mathlib.Core.Path.{_≡_, _∙_, ap, sym}
+use mathlib.Core.Logic.{⊎-elim}
+use native.Mathlib.Omega.{arith}
+use lib.ListN.{length-map}
+use Rattle.rules.specs.Record.{recordAt}
 use Rattle.effect.specs.Effect.{withTasks, eachBlocked, blockedOnce}
+use Rattle.effect.proofs.Laws.{changed-none, blocked-here, blocked-yes, blocked-more, blocked-no}
 use Rattle.effect.proofs.blocked_above.Statement.{statement}
 use Rattle.effect.proofs.blocked_above.Tie as tie
-use Rattle.effect.proofs.blocked_above.Reads as reads
-use Rattle.effect.proofs.blocked_above.Lts as lts
-use Rattle.effect.proofs.blocked_up.Reads as blocked-up-reads
 
 abbrev Inv-loop : tie.InvT-loop
 Inv-loop x next₀ i₀ next i = (i ≤ x) × (next ≡ withTasks next₀ (eachBlocked i (next₀ .tasks)))
@@ -19,19 +15,15 @@ Inv-loop x next₀ i₀ next i = (i ≤ x) × (next ≡ withTasks next₀ (eachB
 abbrev μ-loop : tie.MeasureT-loop
 μ-loop x next₀ i₀ next i = x - i
 
--- src/lib.rt:284:5
 loop-holds : tie.Need-loop-holds Inv-loop μ-loop
 loop-holds c = (omega arith, ap (withTasks (c .args .st)) (changed-none (λ i r. blockedOnce r) (c .args .st .tasks) (sym (length-map (c .args .st .tasks) _) ∙ c .good .1 .0 .1 .1 .1 .1 .1 .0 .1 .0 .1)))
 
--- src/lib.rt:285:17
 mul-r : tie.Need-mul-r Inv-loop μ-loop
 mul-r c = omega arith
 
--- src/lib.rt:285:17
 element-copy-out-r : tie.Need-element-copy-out-r Inv-loop μ-loop
 element-copy-out-r c = omega arith
 
--- src/lib.rt:288:17
 blocked-up-requires : tie.Need-blocked-up-requires Inv-loop μ-loop
 unfolding recordAt
 blocked-up-requires c κs =
@@ -39,23 +31,18 @@ blocked-up-requires c κs =
     let l = c .before .before .before .before .loop in
     rw (blocked-here (b .args .st) (l .next) (l .i) (l .inv .1) (omega arith)) (b .pre .1 (l .i) (omega arith) .blocked)
 
--- src/lib.rt:289:13
 mul-t14 : tie.Need-mul-t14 Inv-loop μ-loop
 mul-t14 c = omega arith
 
--- src/lib.rt:289:13
 element-set-from-next : tie.Need-element-set-from-next Inv-loop μ-loop
 element-set-from-next c = omega arith
 
--- src/lib.rt:294:9
 add-i : tie.Need-add-i Inv-loop μ-loop
 add-i c = omega arith
 
--- src/lib.rt:284:5
 loop-less : tie.Need-loop-less Inv-loop μ-loop
 loop-less c = omega arith
 
--- src/lib.rt:284:5
 loop-again : tie.Need-loop-again Inv-loop μ-loop
 unfolding recordAt
 loop-again c =
@@ -68,7 +55,6 @@ loop-again c =
           (c .if1 .came),
     )
 
--- src/lib.rt:277:1
 returns : tie.Need-returns Inv-loop μ-loop
 returns c =
     let a = c .before .before .args in

@@ -1,48 +1,36 @@
+use borrow.Author.Needs.{needs}
 use Rattle.table.specs.declared.Here.{Here}
 use Rattle.effect.proofs.Laws.{leftHere, left-told}
-use borrow.Author.Needs.{needs}
 use Rattle.effect.proofs.full_at.Statement.{statement}
 use Rattle.effect.proofs.full_at.Tie as tie
-use Rattle.effect.proofs.full_at.Reads as reads
-use Rattle.effect.proofs.full_at.Lts as lts
-use Rattle.table.proofs.step_at.Reads as step-at-reads
 
--- src/lib.rt:94:9
 step-at-requires : tie.Need-step-at-requires
 step-at-requires c κs = search needs
 
--- src/lib.rt:96:19
 enum-known-h : tie.Need-enum-known-h
 enum-known-h c = search needs
 
--- src/lib.rt:97:26
 enum-told : tie.Need-enum-told
 enum-told c = search needs
 
--- src/lib.rt:98:28
 enum-told-2 : tie.Need-enum-told-2
 enum-told-2 c = search needs
 
--- src/lib.rt:99:22
 enum-told-3 : tie.Need-enum-told-3
 enum-told-3 c = search needs
 
--- src/lib.rt:90:1
 returns : tie.Need-returns
 unfolding leftHere
 returns c = left-told _ _ (Here.Run _) (c .before .before .before .step-at .ensures) (c .before .h .given .1)
 
--- src/lib.rt:90:1
 returns-2 : tie.Need-returns-2
 unfolding leftHere
 returns-2 c = left-told _ _ (Here.Lock _) (c .before .before .step-at .ensures) (c .enum-told .given .1)
 
--- src/lib.rt:90:1
 returns-3 : tie.Need-returns-3
 unfolding leftHere
 returns-3 c = left-told _ _ (Here.Unlock _) (c .before .before .step-at .ensures) (c .enum-told2 .given .1)
 
--- src/lib.rt:90:1
 returns-4 : tie.Need-returns-4
 unfolding leftHere
 returns-4 c = left-told _ _ (Here.End) (c .before .before .step-at .ensures) (c .enum-told3 .given .1)

@@ -1,8 +1,8 @@
-use borrow.Author.Needs.{needs}
-use native.Mathlib.Omega.{arith}
-use mathlib.Core.Path.{_≡_, refl}
 use Prim.Native.Nat.{_+_, _-_}
+use mathlib.Core.Path.{_≡_, refl}
+use native.Mathlib.Omega.{arith}
 use lib.ListN.{drop}
+use borrow.Author.Needs.{needs}
 use Rattle.rules.specs.Words.{leading}
 use Rattle.rules.specs.Sheet.{isUnlock}
 use Rattle.table.specs.Table.{taskOf}
@@ -10,9 +10,6 @@ use Rattle.table.proofs.Laws.{length-steps}
 use Rattle.effect.proofs.Laws.{past-end, past-more, past-inside}
 use Rattle.effect.proofs.past_unlocks.Statement.{statement}
 use Rattle.effect.proofs.past_unlocks.Tie as tie
-use Rattle.effect.proofs.past_unlocks.Reads as reads
-use Rattle.effect.proofs.past_unlocks.Lts as lts
-use Rattle.effect.proofs.at_unlock.Reads as at-unlock-reads
 
 abbrev Inv-loop : tie.InvT-loop
 Inv-loop s e from p₀ p = p + leading isUnlock (drop p (taskOf s e .steps)) ≡ from + leading isUnlock (drop from (taskOf s e .steps))
@@ -20,15 +17,12 @@ Inv-loop s e from p₀ p = p + leading isUnlock (drop p (taskOf s e .steps)) ≡
 abbrev μ-loop : tie.MeasureT-loop
 μ-loop s e from p₀ p = e .count - p
 
--- src/lib.rt:200:5
 loop-holds : tie.Need-loop-holds Inv-loop μ-loop
 loop-holds c = refl
 
--- src/lib.rt:200:11
 at-unlock-requires : tie.Need-at-unlock-requires Inv-loop μ-loop
 at-unlock-requires c κs = search needs
 
--- src/lib.rt:201:9
 add-p : tie.Need-add-p Inv-loop μ-loop
 add-p c =
     let a = c .before .before .before .before .args in
@@ -36,7 +30,6 @@ add-p c =
     let n = length-steps (a .s .now) (a .e) in
     omega arith
 
--- src/lib.rt:200:5
 loop-less : tie.Need-loop-less Inv-loop μ-loop
 loop-less c =
     let a = c .before .before .before .before .args in
@@ -44,11 +37,9 @@ loop-less c =
     let n = length-steps (a .s .now) (a .e) in
     omega arith
 
--- src/lib.rt:200:5
 loop-again : tie.Need-loop-again Inv-loop μ-loop
 loop-again c = search past-more
 
--- src/lib.rt:195:1
 returns : tie.Need-returns Inv-loop μ-loop
 returns c = search past-end
 

@@ -1,9 +1,9 @@
-use borrow.Author.Needs.{needs}
-use native.Mathlib.Omega.{arith}
-use mathlib.Core.Path.{_≡_, _∙_, refl, ap}
 use Prim.Native.Nat.{ℕ, _≤_, _<_, _-_}
+use mathlib.Core.Path.{_≡_, _∙_, refl, ap}
+use native.Mathlib.Omega.{arith}
 use lib.ListN.{length, length-set}
 use denote.Ref.{now}
+use borrow.Author.Needs.{needs}
 use Rattle.rules.specs.Record.{start}
 use Rattle.rules.specs.Run.{after, written}
 use Rattle.rules.specs.declared.State.{State}
@@ -11,10 +11,6 @@ use Rattle.table.specs.Table.{sheetOf}
 use Rattle.engine.proofs.Ticks.{after-more, written-none, written-more, run-time, run-possible}
 use Rattle.engine.proofs.run_of.Statement.{statement}
 use Rattle.engine.proofs.run_of.Tie as tie
-use Rattle.engine.proofs.run_of.Reads as reads
-use Rattle.engine.proofs.run_of.Lts as lts
-use Rattle.engine.proofs.start_state.Reads as start-state-reads
-use Rattle.engine.proofs.tick_of.Reads as tick-of-reads
 
 abbrev Inv-loop : tie.InvT-loop
 Inv-loop s table cs h trace₀ end st₀ k₀ trace st k =
@@ -23,16 +19,13 @@ Inv-loop s table cs h trace₀ end st₀ k₀ trace st k =
 abbrev μ-loop : tie.MeasureT-loop
 μ-loop s table cs h trace₀ end st₀ k₀ trace st k = end - k
 
--- src/run.rt:78:9
 start-state-requires : tie.Need-start-state-requires Inv-loop μ-loop
 start-state-requires c κs = search needs
 
--- src/run.rt:80:5
 loop-holds : tie.Need-loop-holds Inv-loop μ-loop
 unfolding after
 loop-holds c = (omega arith, refl, c .start-state .ensures, written-none _ _)
 
--- src/run.rt:81:13
 tick-of-requires : tie.Need-tick-of-requires Inv-loop μ-loop
 tick-of-requires c κs =
     let b = c .before .before .before .before .before in
@@ -42,19 +35,15 @@ tick-of-requires c κs =
     let early : l .k < 60000 = omega (arith, b .pre .1 .1 .0) in
     (b .pre .0, (b .pre .1 .0, (run-possible bytes sheet (b .pre .0 .reads) (l .k) early (l .st) (l .inv .2), run-time bytes sheet (b .pre .0 .reads) (l .k) early (l .st) (l .inv .2))))
 
--- src/run.rt:82:9
 slice-write-trace : tie.Need-slice-write-trace Inv-loop μ-loop
 slice-write-trace c = omega arith
 
--- src/run.rt:84:9
 add-k : tie.Need-add-k Inv-loop μ-loop
 add-k c = omega arith
 
--- src/run.rt:80:5
 loop-less : tie.Need-loop-less Inv-loop μ-loop
 loop-less c = omega arith
 
--- src/run.rt:80:5
 loop-again : tie.Need-loop-again Inv-loop μ-loop
 loop-again c =
     let b = c .before .before .before .before .before .before in
@@ -68,11 +57,9 @@ loop-again c =
       written-more sheet (l .k) (now (b .args .trace)) (l .trace) (c .tick-of .result .last) inside (l .inv .3) (ap (λ (x : State). x .last) next),
     )
 
--- src/run.rt:69:1
 same-length : tie.Need-same-length Inv-loop μ-loop
 same-length c = c .before .loop .inv .1
 
--- src/run.rt:69:1
 returns : tie.Need-returns Inv-loop μ-loop
 returns c =
     let b = c .before .before .before .before .before in

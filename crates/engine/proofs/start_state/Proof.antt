@@ -1,19 +1,13 @@
 use mathlib.Core.Path.{ap}
 use lib.ListN.{replicate}
-use Rattle.rules.specs.declared.TaskRecord.{TaskRecord}
-use Rattle.rules.specs.declared.State.{State}
 use borrow.Author.Needs.{needs}
+use Rattle.rules.specs.declared.TaskRecord.{TaskRecord}
 use Rattle.engine.proofs.start_state.Statement.{statement}
 use Rattle.engine.proofs.start_state.Tie as tie
-use Rattle.engine.proofs.start_state.Reads as reads
-use Rattle.engine.proofs.start_state.Lts as lts
-use Rattle.engine.proofs.blank_record.Reads as blank-record-reads
 
--- src/run.rt:59:9
 blank-record-requires : tie.Need-blank-record-requires
 blank-record-requires c κs = search needs
 
--- src/run.rt:56:1
 returns : tie.Need-returns
 returns c = ap (λ (r : TaskRecord). record { t = 0; switches = 0; last = 255; tasks = replicate 16 r }) (c .blank-record .ensures)
 

@@ -1,33 +1,24 @@
+use mathlib.Core.Path.{ap}
 use native.Mathlib.Omega.{arith}
-use mathlib.Core.Path.{_∙_, ap}
 use denote.Ref.{now}
 use Rattle.rules.specs.declared.State.{State}
 use Rattle.table.specs.Table.{sheetOf}
 use Rattle.engine.proofs.Ticks.{room, room-after, switches-room, choosable, tick-parts}
 use Rattle.engine.proofs.tick_of.Statement.{statement}
 use Rattle.engine.proofs.tick_of.Tie as tie
-use Rattle.engine.proofs.tick_of.Reads as reads
-use Rattle.engine.proofs.tick_of.Lts as lts
-use Rattle.choice.proofs.runner_of.Reads as runner-of-reads
-use Rattle.effect.proofs.after_releases.Reads as after-releases-reads
-use Rattle.effect.proofs.after_runner.Reads as after-runner-reads
-use Rattle.effect.proofs.closed.Reads as closed-reads
 
--- src/run.rt:26:9
 after-releases-requires : tie.Need-after-releases-requires
 after-releases-requires c κs =
     let b = c .before in
     let sheet = sheetOf (now (b .args .s)) (b .args .table) in
     (b .pre .0, room (now (b .args .s)) sheet (b .pre .0 .reads) (b .args .st) (b .pre .1 .1 .0) (b .pre .1 .1 .1))
 
--- src/run.rt:27:9
 runner-of-requires : tie.Need-runner-of-requires
 runner-of-requires c κs =
     let b = c .before .before in
     let sheet = sheetOf (now (b .args .s)) (b .args .table) in
     (b .pre .0, (b .pre .1 .0, choosable (now (b .args .s)) sheet (b .pre .0 .reads) (b .args .st) (b .pre .1 .1 .0) (b .pre .1 .1 .1) (c .after-releases .result) (c .after-releases .ensures)))
 
--- src/run.rt:28:9
 after-runner-requires : tie.Need-after-runner-requires
 after-runner-requires c κs =
     let b = c .before .before .before in
@@ -40,7 +31,6 @@ after-runner-requires c κs =
       ),
     )
 
--- src/run.rt:29:5
 closed-requires : tie.Need-closed-requires
 closed-requires c κs =
     let b = c .before .before .before .before in
@@ -50,7 +40,6 @@ closed-requires c κs =
       omega (arith, switches-room (now (b .args .s)) sheet (b .pre .0 .reads) (b .args .st) (b .pre .1 .1 .0) (b .pre .1 .1 .1), ap (λ (x : State). x .switches) (a .ensures), ap (λ (x : State). x .switches) (c .after-runner .ensures)),
     )
 
--- src/run.rt:19:1
 returns : tie.Need-returns
 returns c =
     let b = c .before .before .before .before .before in

@@ -32,8 +32,14 @@ returns-3 c = search head-3
 shared-slice-read-n : tie.Need-shared-slice-read-n
 shared-slice-read-n c = search needs
 
+shared-slice-read-m : tie.Need-shared-slice-read-m
+shared-slice-read-m c = search needs
+
+shared-slice-read-mode : tie.Need-shared-slice-read-mode
+shared-slice-read-mode c = search needs
+
 cast-within : tie.Need-cast-within
-cast-within c = omega (arith, c .shared-slice-known2 .given 5)
+cast-within c = omega (arith, c .before .before .shared-slice-known2 .given 5)
 
 within-requires : tie.Need-within-requires
 within-requires c κs = search needs
@@ -45,18 +51,12 @@ returns-4 : tie.Need-returns-4
 unfolding byte
 returns-4 c = search head-4
 
-shared-slice-read-m : tie.Need-shared-slice-read-m
-shared-slice-read-m c = search needs
-
 refusal-requires-5 : tie.Need-refusal-requires-5
 refusal-requires-5 c κs = search needs
 
 returns-5 : tie.Need-returns-5
 unfolding byte
 returns-5 c = search head-5
-
-shared-slice-read-mode : tie.Need-shared-slice-read-mode
-shared-slice-read-mode c = search needs
 
 refusal-requires-6 : tie.Need-refusal-requires-6
 refusal-requires-6 c κs = search needs
@@ -82,14 +82,14 @@ read-head-spec =
     refusal-requires-3
     returns-3
     shared-slice-read-n
+    shared-slice-read-m
+    shared-slice-read-mode
     cast-within
     within-requires
     refusal-requires-4
     returns-4
-    shared-slice-read-m
     refusal-requires-5
     returns-5
-    shared-slice-read-mode
     refusal-requires-6
     returns-6
     returns-7)

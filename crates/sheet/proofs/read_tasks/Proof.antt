@@ -11,8 +11,11 @@ Inv-loop s h entries₀ n m at₀ i₀ entries at i = Taking s h entries at i
 abbrev μ-loop : tie.MeasureT-loop
 μ-loop s h entries₀ n m at₀ i₀ entries at i = n - i
 
+no-entries-requires : tie.Need-no-entries-requires Inv-loop μ-loop
+no-entries-requires c κs = search needs
+
 loop-holds : tie.Need-loop-holds Inv-loop μ-loop
-loop-holds c = taking-first (c .before .args .s .now) (c .before .args .h) (c .before .pre)
+loop-holds c = search taking-first
 
 read-task-requires : tie.Need-read-task-requires Inv-loop μ-loop
 read-task-requires c κs = omega arith
@@ -71,6 +74,7 @@ read-tasks-spec =
     (tie.spec
     Inv-loop
     μ-loop
+    no-entries-requires
     loop-holds
     read-task-requires
     enum-known-a
