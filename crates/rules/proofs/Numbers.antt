@@ -1,6 +1,6 @@
 -- Every refusal has a number and its place: so it is of each test, and of tests in turn. 0 says that the call went through.
 use Prim.Native.Nat.{ℕ, zero, suc, _+_, _≤_, _<_}
-use mathlib.Core.Path.{_≡_, refl, ap}
+use mathlib.Core.Path.{_≡_, refl}
 use mathlib.Core.Logic.{_⊎_, ⊎-elim}
 use mathlib.Core.List.{List, [], _∷_, _++_}
 use mathlib.Core.Bool.{Bool, true, false, not, _&&_}
@@ -8,12 +8,11 @@ use native.Mathlib.Omega.{arith}
 use lib.ListN.{length, drop, length-append}
 use borrow.Author.Tests.{leb-true, not-false}
 use Rattle.rules.specs.Words.{_≤?_, within}
-use Rattle.rules.specs.Sheet.{Step, Sheet}
+use Rattle.rules.specs.Sheet.{Step}
 use Rattle.rules.specs.Reading.{Reading, read, refused, refusal, _>>=_, refuse_of_at_when_, byte, stepOf, word, readSteps, readTask, readTasks, readSheet}
 use Rattle.rules.specs.Laws.{Given}
 use Rattle.rules.specs.Answers.{why, readTick, readRun}
 use Rattle.rules.specs.declared.State.{State}
-use Rattle.rules.specs.declared.Refusal.{Refusal}
 use Rattle.rules.proofs.Laws.{and-left, and-right}
 
 -- what was read has no number; a refusal has one, and its place

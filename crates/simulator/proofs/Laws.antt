@@ -1,9 +1,9 @@
 -- Laws of the answers: a call that is turned away, and one that goes through.
-use Prim.Native.Nat.{ℕ, zero, suc, _≤_, _<_}
+use Prim.Native.Nat.{ℕ, zero, suc}
 use mathlib.Core.Logic.{_⊎_, inl, inr, ⊎-elim}
-use mathlib.Core.Path.{_≡_, refl, sym, ap, _∙_}
+use mathlib.Core.Path.{_≡_, refl, ap, _∙_}
 use mathlib.Core.List.{List}
-use mathlib.Core.Bool.{Bool, true, false, not}
+use mathlib.Core.Bool.{false}
 use native.Mathlib.Omega.{arith}
 use lib.ListN.{length, replicate}
 use Rattle.rules.specs.Sheet.{Sheet}
@@ -15,7 +15,7 @@ use Rattle.rules.specs.Answers.{why, made, byRank, signed, check, ceilings, bou
 use Rattle.rules.specs.declared.Refusal.{Refusal}
 use lib.IntN.{pos}
 use Rattle.rules.specs.declared.Laxity.{Laxity}
-use Rattle.table.specs.Table.{sheetOf, Tabled}
+use Rattle.table.specs.Table.{sheetOf}
 use Rattle.table.proofs.Laws.{tasks-count}
 use Rattle.sheet.specs.declared.Parsed.{Parsed}
 use Rattle.sheet.specs.Reader.{ParsedFrom}

@@ -2,19 +2,18 @@
 use Prim.Native.Nat.{ℕ, _≤_, _<_}
 use mathlib.Core.Path.{_≡_, refl, sym, ap, _∙_}
 use mathlib.Core.List.{List}
-use mathlib.Core.Bool.{Bool, true, false, not}
+use mathlib.Core.Bool.{Bool, true, false}
 use lib.ListN.{length}
 use mathlib.Core.Logic.{⊎-elim}
 use native.Mathlib.Omega.{arith}
 use Rattle.rules.proofs.Laws.{below}
 use borrow.Author.Tests.{lt-ltb, le-ltb, eq-eqb, ne-eqb}
-use Rattle.rules.specs.Words.{_<?_, _=?_}
 use Rattle.rules.specs.Sheet.{Sheet}
 use Rattle.rules.specs.Reading.{Reading, read, refused, refusal, _>>=_, refuse_of_at_when_, readSheet}
 use Rattle.rules.specs.Record.{start, possible}
 use Rattle.rules.specs.Tick.{tick}
 use Rattle.rules.specs.Run.{after, written}
-use Rattle.rules.specs.Answers.{why, made, readTick, told, recordAfter, ticked, readRun, ran, bufferAfter, noState}
+use Rattle.rules.specs.Answers.{why, made, readTick, told, recordAfter, ticked, readRun, ran, bufferAfter}
 use Rattle.rules.proofs.Possible.{possible-parts}
 use Rattle.rules.specs.declared.Refusal.{Refusal}
 use Rattle.rules.specs.declared.State.{State}

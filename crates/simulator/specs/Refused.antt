@@ -1,5 +1,4 @@
 -- What refused calls answer.
-use Prim.Native.Nat.{ℕ}
 use Rattle.rules.specs.declared.Refusal.{Refusal}
 use Rattle.rules.specs.declared.State.{State}
 use Rattle.rules.specs.declared.Ticked.{Ticked}

@@ -3,14 +3,13 @@ use Prim.Native.Nat.{ℕ, zero, suc, _+_, _*_, _≤_, _<_}
 use mathlib.Core.Path.{_≡_, refl, sym, ap, _∙_, subst}
 use mathlib.Core.Logic.{⊎-elim}
 use mathlib.Core.List.{List, [], _∷_}
-use mathlib.Core.Bool.{Bool, true, false}
 use native.Mathlib.Omega.{arith}
 use native.Mathlib.Numerals.{add-one}
 use lib.ListN.{length, getD, drop, List·getD-eq-default}
-use lib.Seq.{drop-cons, drop-length, drop-nil}
+use lib.Seq.{drop-cons, drop-nil}
 use borrow.Author.Tests.{lt-ltb, le-ltb, ne-eqb, eq-eqb}
-use Rattle.rules.specs.Words.{row, _<?_}
-use Rattle.rules.specs.Sheet.{Step, run, lock, unlock, Task, Sheet, noTask, taskAt}
+use Rattle.rules.specs.Words.{row}
+use Rattle.rules.specs.Sheet.{run, noTask, taskAt}
 use Rattle.rules.specs.Reading.{byte, word, stepOf}
 use Rattle.rules.proofs.Laws.{below, length-row, row-at}
 use Rattle.table.specs.Table.{here, stepAt, stepsAt, taskOf, noEntry, entryOf, sheetOf, Lies, Tabled}

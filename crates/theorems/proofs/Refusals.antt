@@ -1,6 +1,6 @@
 -- The number in an answer tells whether the call went through, and each refusal has its place.
 use Prim.Native.Nat.{ℕ}
-use mathlib.Core.Path.{_≡_, refl, ap}
+use mathlib.Core.Path.{refl, ap}
 use mathlib.Core.Logic.{inl, inr}
 use mathlib.Core.List.{List}
 use Rattle.rules.specs.Sheet.{Sheet}

@@ -2,13 +2,12 @@
 use Prim.Native.Nat.{ℕ, zero, suc, _+_, _≤_, _<_}
 use mathlib.Core.Path.{_≡_, refl, sym, ap, _∙_}
 use mathlib.Core.List.{List, _++_}
-use mathlib.Core.Bool.{true}
 use native.Mathlib.Omega.{arith}
 use native.Mathlib.Nat.{suc-add, zero-add}
 use lib.ListN.{drop}
 use Rattle.rules.specs.Words.{row}
 use Rattle.rules.specs.Sheet.{Sheet}
-use Rattle.rules.specs.Record.{start, possible}
+use Rattle.rules.specs.Record.{start}
 use Rattle.rules.specs.Tick.{closed, tick}
 use Rattle.rules.specs.Run.{after, trace, written}
 use Rattle.rules.specs.Answers.{ticked, told, recordAfter}

@@ -1,4 +1,4 @@
-use mathlib.Core.Path.{sym, ap, _∙_}
+use mathlib.Core.Path.{ap, _∙_}
 use Rattle.simulator.specs.Refused.{notRun}
 use Rattle.simulator.proofs.Ticks.{run-away, run-far, run-short, run-made, run-wrote}
 use borrow.Author.Needs.{needs}
