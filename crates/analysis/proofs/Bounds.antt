@@ -16,7 +16,7 @@ use Rattle.rules.specs.Choice.{ceiling}
 use Rattle.rules.specs.Bounds.{runs, inside, sectionLength, bound, cost}
 use Rattle.rules.specs.Answers.{byRank}
 use Rattle.rules.specs.Laws.{All, StepLimits, Limits}
-use Rattle.rules.proofs.Laws.{below, row-at}
+use Rattle.rules.proofs.Laws.{below, row-at, largest-same}
 use Rattle.rules.proofs.Limits.{acceptedWithinLimits}
 use Rattle.table.specs.Table.{here, stepsAt, taskOf, entryOf, sheetOf, Tabled}
 use Rattle.table.specs.declared.Entry.{Entry}
@@ -25,7 +25,7 @@ use Rattle.table.specs.declared.Here.{Here}
 use Rattle.table.specs.declared.Here.the-variants.{Run, Lock, Unlock, End}
 use Rattle.table.proofs.Laws.{length-steps, steps-past, entry-out, task-at, tasks-count}
 use Rattle.analysis.specs.Steps.{ticks, isUnlockOf, atMost, Sound}
-use Rattle.analysis.proofs.Laws.{Filled, filled-ranks, largest-turn, largest-end, largest-same, largest-none, largest-le}
+use Rattle.analysis.proofs.Laws.{Filled, filled-ranks, largest-turn, largest-end, largest-none, largest-le}
 
 -- a row of steps by its first and the rest
 runs-first : (steps : List Step) → runs steps ≡ ticks (here steps) + runs (drop 1 steps)

@@ -82,11 +82,6 @@ module _ (f : ℕ → ℤ) (first : ℤ) where
   pub largestOf-end : (m n best : ℕ) → n ≤ m → m ≤ n → lowered best ≡ largestOf n first f → lowered best ≡ largestOf m first f
   largestOf-end m n best l k e = e ∙ ap (λ (x : ℕ). largestOf x first f) (let z : n ≡ m = omega arith in z)
 
-pub largestOf-same : (n : ℕ) (x y : ℤ) (f g : ℕ → ℤ) → x ≡ y → ((j : ℕ) → j < n → f j ≡ g j) → largestOf n x f ≡ largestOf n y g
-unfolding largestOf
-largestOf-same zero x y f g e h = e
-largestOf-same (suc n) x y f g e h = ap₂ larger (largestOf-same n x y f g e (λ j l. h j (omega arith))) (h n (omega arith))
-
 -- at least -m, and at most m
 abbrev pub AtLeast : (m : ℕ) → ℤ → Type 0
 AtLeast m (pos n) = Unit {0}

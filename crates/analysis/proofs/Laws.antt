@@ -1,8 +1,8 @@
 -- Laws of rows, arrays, largest values and sums.
 use Prim.Native.Nat.{ℕ, zero, suc, _+_, _*_, _≤_, _<_, max}
-use mathlib.Core.Path.{_≡_, refl, sym, ap, ap₂, _∙_}
+use mathlib.Core.Path.{_≡_, refl, sym, ap, _∙_}
 use mathlib.Core.Logic.{⊎-elim}
-use mathlib.Core.List.{List, [], _∷_, _++_}
+use mathlib.Core.List.{List}
 use native.Mathlib.Omega.{arith}
 use native.Mathlib.Numerals.{add-one}
 use native.Mathlib.Nat.{suc-mul}
@@ -13,11 +13,6 @@ use Rattle.rules.specs.Words.{if_then_else_, _<?_, row, largest, total}
 use Rattle.rules.specs.Sheet.{Sheet}
 use Rattle.rules.specs.Answers.{byRank}
 use Rattle.rules.proofs.Laws.{below, and-at, length-row, row-at}
-
-pub row-same : {A : Type 0} (n : ℕ) (f g : ℕ → A) → ((i : ℕ) → i < n → f i ≡ g i) → row n f ≡ row n g
-unfolding row
-row-same zero f g h = refl
-row-same {A = A} (suc n) f g h = ap₂ (λ (xs : List A) (x : A). xs ++ (x ∷ [])) (row-same n f g (λ i l. h i (omega arith))) (h n (omega arith))
 
 -- an array is a row, by its places
 row-is : {A : Type 0} (z : A) (g : ℕ → A) (xs : List A) → length xs ≡ 16 → ((j : ℕ) → j < 16 → getD xs j z ≡ g j) → xs ≡ row 16 g
@@ -72,11 +67,6 @@ largest-turn f k best v r eb ev er = er ∙ rw (eb, ev, add-one k) refl
 pub largest-end : (f : ℕ → ℕ) (n k best : ℕ) → k ≤ n → n ≤ k → best ≡ largest k f → best ≡ largest n f
 largest-end f n k best l m e = e ∙ ap (λ (x : ℕ). largest x f) (let z : k ≡ n = omega arith in z)
 
-pub largest-same : (n : ℕ) (f g : ℕ → ℕ) → ((k : ℕ) → f k ≡ g k) → largest n f ≡ largest n g
-unfolding largest
-largest-same zero f g h = refl
-largest-same (suc n) f g h = ap₂ max (largest-same n f g h) (h n)
-
 pub largest-none : (n : ℕ) (f : ℕ → ℕ) → ((k : ℕ) → k < n → f k ≡ 0) → largest n f ≡ 0
 unfolding largest
 largest-none zero f h = refl
@@ -92,8 +82,3 @@ pub total-le : (n : ℕ) (f : ℕ → ℕ) (m : ℕ) → ((r : ℕ) → r < n �
 unfolding total
 total-le zero f m h = omega arith
 total-le (suc n) f m h = let z : suc n * m ≡ n * m + m = suc-mul n m in omega (arith, total-le n f m (λ r l. h r (omega arith)), h n (omega arith))
-
-pub total-same : (n : ℕ) (f g : ℕ → ℕ) → ((r : ℕ) → r < n → f r ≡ g r) → total n f ≡ total n g
-unfolding total
-total-same zero f g h = refl
-total-same (suc n) f g h = ap₂ _+_ (total-same n f g (λ r l. h r (omega arith))) (h n (omega arith))

@@ -17,14 +17,15 @@ use Rattle.rules.specs.Sheet.{Task, Sheet, taskAt}
 use Rattle.rules.specs.Bounds.{bound, cost, roundedUp, demand, slack, largestOf, laxity}
 use Rattle.rules.specs.Answers.{byRank, signed}
 use Rattle.rules.specs.declared.Laxity.{Laxity}
-use Rattle.rules.proofs.Laws.{true-false, below, lightest, row-at}
+use Rattle.rules.proofs.Laws.{true-false, below, lightest, row-at, row-same, total-same}
 use Rattle.table.specs.Table.{taskOf, entryOf, sheetOf, Tabled}
 use Rattle.table.specs.declared.Table.{Table}
 use Rattle.table.proofs.Laws.{task-at, tasks-count}
 use Rattle.analysis.specs.Laxity.{demandOf, demandFrom, slackFrom, pointFrom, largestFrom, laxityFrom, laxitiesFrom, Periods, raise, lowered}
-use Rattle.analysis.proofs.Laws.{row-same, Filled, filled-ranks, ranked, total-le, total-same}
+use Rattle.analysis.proofs.Laws.{Filled, filled-ranks, ranked, total-le}
 use Rattle.analysis.proofs.Bounds.{limits}
-use Rattle.analysis.proofs.Integers.{AtLeast, AtMost, lowered-slack, largestOf-same, largest-at-least, largest-at-most, slack-at-least, slack-at-most, lowered-at-least, lowered-at-most}
+use Rattle.analysis.proofs.Integers.{AtLeast, AtMost, lowered-slack, largest-at-least, largest-at-most, slack-at-least, slack-at-most, lowered-at-least, lowered-at-most}
+use Rattle.rules.proofs.Points.{largestOf-same}
 
 pub rounded : (t p : ℕ) → t < 65536 → p < 65536 → ((t + (p - 1)) / p ≡ roundedUp t p) × ((t + (p - 1)) / p < 131072)
 unfolding roundedUp

@@ -1,6 +1,6 @@
 -- A largest value is negative where each value is, and a slack where the demand is above the time.
 use Prim.Native.Nat.{ℕ, zero, suc, _+_, _-_, _*_, _/_, _≤_, _<_}
-use mathlib.Core.Path.{_≡_, refl, sym, ap, _∙_, subst}
+use mathlib.Core.Path.{_≡_, refl, sym, ap, _∙_, subst, ap₂}
 use mathlib.Core.Logic.{_↔_, ⊎-elim}
 use mathlib.Core.List.{List}
 use mathlib.Core.Bool.{Bool, true, false}
@@ -33,6 +33,12 @@ larger-negative (negsuc a) (negsuc b) = go (leb b a)
     go : (c : Bool) → Negative (if c then negsuc b else negsuc a) ↔ (Negative (negsuc a) × Negative (negsuc b))
     go true = ((λ e. (refl, refl)), (λ e. refl))
     go false = ((λ e. (refl, refl)), (λ e. refl))
+
+-- the largest of values that are the same
+pub largestOf-same : (n : ℕ) (a b : ℤ) (f g : ℕ → ℤ) → a ≡ b → ((i : ℕ) → i < n → f i ≡ g i) → largestOf n a f ≡ largestOf n b g
+unfolding largestOf
+largestOf-same zero a b f g e h = e
+largestOf-same (suc n) a b f g e h = ap₂ larger (largestOf-same n a b f g e (λ i l. h i (omega arith))) (h n (omega arith))
 
 abbrev AllNegative : ℕ → ℤ → (ℕ → ℤ) → Type 0
 AllNegative n first f = Negative first × ((j : ℕ) → j < n → Negative (f j))

@@ -13,7 +13,7 @@ use Rattle.rules.specs.Words.{if_then_else_, _<?_, _=?_, any, smallest, row}
 use Rattle.rules.specs.Sheet.{Step, run, lock, unlock, Task, Sheet, noTask, taskAt, isLockOf}
 use Rattle.rules.specs.Choice.{locks, ceiling}
 use Rattle.rules.specs.Laws.{All, StepLimits}
-use Rattle.rules.proofs.Laws.{sure, length-row, row-at, smallest-found, smallest-le, smallest-is, smallest-none, Found}
+use Rattle.rules.proofs.Laws.{sure, length-row, row-at, smallest-found, smallest-le, smallest-is, smallest-none, Found, and-true, row-same}
 use Rattle.rules.proofs.Limits.{acceptedWithinLimits}
 use Rattle.rules.proofs.Possible.{all-drop}
 use Rattle.table.specs.Table.{here, taskOf, entryOf, sheetOf, Tabled}
@@ -23,7 +23,6 @@ use Rattle.table.specs.declared.Here.{Here}
 use Rattle.table.specs.declared.Here.the-variants.{Run, Lock, Unlock, End}
 use Rattle.table.proofs.Laws.{task-at, tasks-count, length-steps}
 use Rattle.sheet.specs.Ceilings.{LockFits, LocksFit, withStep, withSteps, withTask, ceilingsUpTo}
-use Rattle.sheet.proofs.Tests.{row-same}
 
 -- one step, as the code goes
 module _ (i : ℕ) (x : Here) (cs : List ℕ) where
@@ -74,10 +73,6 @@ lowered-twice i true d c = go d (i <? c) refl
     go false t e = refl
     go true true e = rw (le-ltb i i (omega arith)) refl
     go true false e = rw e refl
-
-and-true : (b : Bool) → (b && true) ≡ b
-and-true true = refl
-and-true false = refl
 
 and-false : (b : Bool) → (b && false) ≡ false
 and-false true = refl

@@ -16,7 +16,7 @@ use Rattle.rules.specs.Answers.{why}
 use Rattle.rules.proofs.Reading.{passed, got, within-to}
 use Rattle.rules.specs.Laws.{Given}
 use Rattle.rules.proofs.Numbers.{Numbered, sheet-numbered}
-use Rattle.rules.proofs.Laws.{below, and-at}
+use Rattle.rules.proofs.Laws.{below, and-at, row-same}
 use Rattle.rules.specs.declared.Refusal.{Refusal}
 use Rattle.table.specs.Table.{taskOf, noEntry, entryOf, sheetOf, Lies}
 use Rattle.table.specs.declared.Entry.{Entry}
@@ -29,7 +29,7 @@ use Rattle.sheet.specs.declared.HeadRead.the-variants.{Begun, NoHead}
 use Rattle.sheet.specs.declared.TaskRead.{TaskRead}
 use Rattle.sheet.specs.declared.TaskRead.the-variants.{Opened, NoTask}
 use Rattle.sheet.specs.declared.Parsed.{Parsed}
-use Rattle.sheet.proofs.Tests.{stops, goes-on, then-on, then-then, then-same, row-same}
+use Rattle.sheet.proofs.Tests.{stops, goes-on, then-on, then-then, then-same}
 
 -- rules' sheet is its head, its tasks and 13
 abbrev sheet-rest : (s : List ℕ) → Head → Reading Sheet

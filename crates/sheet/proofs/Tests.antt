@@ -1,14 +1,14 @@
 -- Laws of reading in parts: tests that refuse, tests that are passed, and bytes by a cursor.
-use Prim.Native.Nat.{ℕ, zero, suc, _+_, _-_, _*_, _≤_, _<_}
+use Prim.Native.Nat.{ℕ, _+_, _-_, _*_, _≤_, _<_}
 use mathlib.Core.Path.{_≡_, refl, sym, ap, ap₂, _∙_}
 use mathlib.Core.Logic.{⊎-elim}
-use mathlib.Core.List.{List, [], _∷_, _++_}
+use mathlib.Core.List.{List}
 use mathlib.Core.Bool.{Bool, true, false, not}
 use native.Mathlib.Omega.{arith}
 use lib.ListN.{drop}
 use lib.Seq.{getD-drop}
 use borrow.Author.Tests.{lt-ltb, le-ltb, le-leb, lt-leb, eq-eqb, ne-eqb, not-true, not-false}
-use Rattle.rules.specs.Words.{_<?_, _≤?_, within, row}
+use Rattle.rules.specs.Words.{_<?_, _≤?_, within}
 use Rattle.rules.specs.Reading.{Reading, read, refused, refusal, _>>=_, refuse_of_at_when_, byte, word, known}
 use Rattle.rules.proofs.Laws.{below}
 use Rattle.rules.specs.declared.Refusal.{Refusal}
@@ -44,12 +44,6 @@ pub then-same : {A B : Type 0} (r : Reading A) (f g : A → Reading B) → ((a :
 unfolding _>>=_
 then-same (read a) f g h = h a
 then-same (refused x) f g h = refl
-
--- rows that agree at each place
-pub row-same : {A : Type 0} (n : ℕ) (f g : ℕ → A) → ((i : ℕ) → i < n → f i ≡ g i) → row n f ≡ row n g
-unfolding row
-row-same {A} zero f g h = refl
-row-same {A} (suc n) f g h = ap₂ (λ (xs : List A) (x : A). xs ++ (x ∷ [])) (row-same n f g (λ i l. h i (omega arith))) (h n (omega arith))
 
 -- a range
 pub within-below : (low high x : ℕ) → x < low → false ≡ within low high x

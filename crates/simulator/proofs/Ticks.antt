@@ -1,6 +1,6 @@
 -- Laws of the calls with a state or a horizon: what each test makes of them.
 use Prim.Native.Nat.{ℕ, _≤_, _<_}
-use mathlib.Core.Path.{_≡_, refl, sym, ap, _∙_}
+use mathlib.Core.Path.{_≡_, refl, ap, _∙_}
 use mathlib.Core.List.{List}
 use mathlib.Core.Bool.{Bool, true, false}
 use lib.ListN.{length}
@@ -9,7 +9,7 @@ use native.Mathlib.Omega.{arith}
 use Rattle.rules.proofs.Laws.{below}
 use borrow.Author.Tests.{lt-ltb, le-ltb, eq-eqb, ne-eqb}
 use Rattle.rules.specs.Sheet.{Sheet}
-use Rattle.rules.specs.Reading.{Reading, read, refused, refusal, _>>=_, refuse_of_at_when_, readSheet}
+use Rattle.rules.specs.Reading.{read, refused, refusal, _>>=_, refuse_of_at_when_}
 use Rattle.rules.specs.Record.{start, possible}
 use Rattle.rules.specs.Tick.{tick}
 use Rattle.rules.specs.Run.{after, written}
@@ -20,18 +20,10 @@ use Rattle.rules.specs.declared.State.{State}
 use Rattle.table.specs.Table.{sheetOf}
 use Rattle.sheet.specs.declared.Parsed.{Parsed}
 use Rattle.sheet.specs.Reader.{ParsedFrom}
+use Rattle.sheet.proofs.Sheets.{parsed-away}
 use Rattle.simulator.specs.Refused.{notTicked, notRun}
 
--- what the reader tells: the sheet is refused, or it is read and the refusal is zero
-is-refused : {A : Type 0} (r : Reading A) → (why r .number ≡ 0 → ⊥) → r ≡ refused (why r)
-unfolding why
-is-refused (read a) n = absurd (n refl)
-is-refused (refused x) n = refl
-
-sheet-refused : (bytes : List ℕ) (p : Parsed) → ParsedFrom bytes p → (p .refusal .number ≡ 0 → ⊥) → readSheet bytes ≡ refused (p .refusal)
-sheet-refused bytes p π n =
-    is-refused (readSheet bytes) (λ z. n (ap (λ (x : Refusal). x .number) (π .reason) ∙ z)) ∙ ap refused (sym (π .reason))
-
+-- where the sheet is read the refusal is zero
 zero-refusal : (bytes : List ℕ) (p : Parsed) → ParsedFrom bytes p → p .refusal .number ≡ 0 → p .refusal ≡ refusal 0 0 0
 unfolding why
 zero-refusal bytes p π z = π .reason ∙ ap why (π .tabled z .reads)
@@ -51,7 +43,7 @@ module _ (bytes : List ℕ) (p : Parsed) (st : State) (π : ParsedFrom bytes p) 
 
   pub tick-away : (p .refusal .number ≡ 0 → ⊥) → notTicked (p .refusal) st ≡ ticked bytes st
   unfolding readTick _>>=_
-  tick-away n = answers-refused (p .refusal) (rw (sheet-refused bytes p π n) refl)
+  tick-away n = answers-refused (p .refusal) (rw (parsed-away bytes p π n) refl)
 
   module _ (z : p .refusal .number ≡ 0) where
     pub tick-impossible : (b : Bool) → b ≡ possible (sheetOf bytes (p .table)) st → b ≡ false → notTicked (refusal 16 0 0) st ≡ ticked bytes st
@@ -80,7 +72,7 @@ module _ (bytes : List ℕ) (p : Parsed) (h : ℕ) (buffer : List ℕ) (π : Par
 
   pub run-away : (p .refusal .number ≡ 0 → ⊥) → (notRun (p .refusal) ≡ ran bytes h buffer) × (buffer ≡ bufferAfter bytes h buffer)
   unfolding readRun _>>=_
-  run-away n = run-refused (p .refusal) (rw (sheet-refused bytes p π n) refl)
+  run-away n = run-refused (p .refusal) (rw (parsed-away bytes p π n) refl)
 
   module _ (z : p .refusal .number ≡ 0) where
     pub run-far : 60000 < h → (notRun (refusal 14 0 0) ≡ ran bytes h buffer) × (buffer ≡ bufferAfter bytes h buffer)

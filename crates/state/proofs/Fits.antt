@@ -14,7 +14,7 @@ use Rattle.rules.specs.declared.Job.{Job}
 use Rattle.rules.specs.declared.Counts.{Counts}
 use Rattle.rules.specs.declared.TaskRecord.{TaskRecord}
 use Rattle.rules.specs.declared.State.{State}
-use Rattle.rules.proofs.Laws.{sure, and-at, every-of, every-no}
+use Rattle.rules.proofs.Laws.{sure, and-at, every-of, every-no, and-true}
 use Rattle.rules.proofs.Possible.{CountsFit, counts-fit}
 use Rattle.table.specs.Table.{here, taskOf, entryOf, sheetOf}
 use Rattle.table.specs.declared.Entry.{Entry}
@@ -22,10 +22,6 @@ use Rattle.table.specs.declared.Table.{Table}
 use Rattle.table.specs.declared.Here.{Here}
 use Rattle.table.proofs.Laws.{task-at, tasks-count}
 use Rattle.state.specs.Records.{recordsFit}
-
-and-true : (b : Bool) → (b && true) ≡ b
-and-true true = refl
-and-true false = refl
 
 -- one count above t is too many
 pub too-many : {t : ℕ} {c : Counts} {x : ℕ} → (CountsFit t c → x ≤ t) → t < x → false ≡ countsFit t c

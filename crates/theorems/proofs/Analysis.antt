@@ -1,36 +1,21 @@
 -- Bounds and laxities of the first k look at nothing below them: a section of a lower task has a ceiling of at least k.
-use Prim.Native.Nat.{ℕ, zero, suc, _+_, _*_, _/_, max, _≤_, _<_}
+use Prim.Native.Nat.{ℕ, _+_, _*_, _/_, _≤_, _<_}
 use mathlib.Core.Path.{_≡_, refl, sym, ap, ap₂, _∙_}
 use mathlib.Core.Logic.{⊎-elim}
 use mathlib.Core.List.{List, [], _∷_}
 use mathlib.Core.Bool.{Bool, true, false}
 use native.Mathlib.Omega.{arith}
 use lib.ListN.{drop}
-use lib.IntN.{ℤ, pos, _-ℤ_}
+use lib.IntN.{pos, _-ℤ_}
 use borrow.Author.Tests.{eq-eqb, lt-leb}
-use Rattle.rules.specs.Words.{if_then_else_, _<?_, _≤?_, largest, total, any}
+use Rattle.rules.specs.Words.{if_then_else_, _<?_, _≤?_, any}
 use Rattle.rules.specs.Sheet.{Step, run, lock, unlock, Task, Sheet, taskAt, isLockOf}
 use Rattle.rules.specs.Choice.{locks, ceiling}
-use Rattle.rules.specs.Bounds.{runs, inside, sectionLength, bound, cost, roundedUp, demand, slack, larger, largestOf, laxity}
-use Rattle.rules.proofs.Laws.{below, true-false, or-right}
+use Rattle.rules.specs.Bounds.{runs, inside, sectionLength, bound, cost, roundedUp, demand, slack, largestOf, laxity}
+use Rattle.rules.proofs.Laws.{below, true-false, any-drop, largest-same, total-same}
 use Rattle.theorems.specs.Demand3.{OfAnalysis}
 use Rattle.theorems.proofs.Demand3.{Twin, flip, ceiling-same, ceiling-high, ceiling-locks, twin}
-
--- the same values have the same largest and the same sum
-largest-same : (n : ℕ) (f g : ℕ → ℕ) → ((i : ℕ) → f i ≡ g i) → largest n f ≡ largest n g
-unfolding largest
-largest-same zero f g h = refl
-largest-same (suc n) f g h = ap₂ max (largest-same n f g h) (h n)
-
-total-same : (n : ℕ) (f g : ℕ → ℕ) → ((i : ℕ) → i < n → f i ≡ g i) → total n f ≡ total n g
-unfolding total
-total-same zero f g h = refl
-total-same (suc n) f g h = ap₂ _+_ (total-same n f g (λ i l. h i (omega arith))) (h n (omega arith))
-
-largestOf-same : (n : ℕ) (a b : ℤ) (f g : ℕ → ℤ) → a ≡ b → ((i : ℕ) → i < n → f i ≡ g i) → largestOf n a f ≡ largestOf n b g
-unfolding largestOf
-largestOf-same zero a b f g e h = e
-largestOf-same (suc n) a b f g e h = ap₂ larger (largestOf-same n a b f g e (λ i l. h i (omega arith))) (h n (omega arith))
+use Rattle.rules.proofs.Points.{largestOf-same}
 
 -- a section is measured by its semaphore's test alone, and not where no lock of the steps passes it
 section-same : (p q : ℕ → Bool) → ((s : ℕ) → p s ≡ q s) → (steps : List Step) → sectionLength p steps ≡ sectionLength q steps
@@ -46,12 +31,6 @@ section-none p [] h = refl
 section-none p (run n ∷ steps) h = refl
 section-none p (lock s ∷ steps) h = let e : p s ≡ false = h s (rw (eq-eqb s s refl) refl) in rw e refl
 section-none p (unlock s ∷ steps) h = refl
-
-any-drop : (p : Step → Bool) (n : ℕ) (steps : List Step) → any p (drop n steps) ≡ true → any p steps ≡ true
-unfolding any
-any-drop p zero steps e = e
-any-drop p (suc n) [] e = e
-any-drop p (suc n) (x ∷ steps) e = or-right (p x) (any p steps) (any-drop p n steps e)
 
 -- no section of a lower task counts for one of the first k
 section-low : {k : ℕ} {a b : Sheet} → Twin k a b → (i j n : ℕ) → i < k → k ≤ j → sectionLength (λ s. ceiling a s ≤? i) (drop n (taskAt a j .steps)) ≡ 0

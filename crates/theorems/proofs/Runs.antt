@@ -17,6 +17,7 @@ use Rattle.theorems.specs.Refusals.{NotRefused}
 use Rattle.theorems.specs.Demand3.{Accepted}
 use Rattle.theorems.specs.Runs.{OneMore, InTwoParts, BothAgree, called, TicksAreRuns}
 use Rattle.theorems.proofs.Answers.{TickGoes, tick-goes-where, run-goes}
+use Rattle.rules.proofs.Laws.{row-same}
 
 pub oneMore : OneMore
 unfolding after trace row
@@ -36,11 +37,6 @@ pub after-t : (h : ℕ) (sheet : Sheet) → after h sheet start .t ≡ h
 unfolding after tick closed
 after-t zero sheet = refl
 after-t (suc h) sheet = let e = after-t h sheet in omega arith
-
-row-same : {A : Type 0} (n : ℕ) (f g : ℕ → A) → ((i : ℕ) → i < n → f i ≡ g i) → row n f ≡ row n g
-unfolding row
-row-same zero f g h = refl
-row-same (suc n) f g h = rw (row-same n f g (λ i l. h i (omega arith)), h n (omega arith)) refl
 
 module _ (bytes : List ℕ) (sheet : Sheet) (e : Accepted bytes sheet) where
   -- the record of a run stays possible, so no tick of it is refused
