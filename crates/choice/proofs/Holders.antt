@@ -2,7 +2,7 @@
 use Prim.Native.Nat.{ℕ, zero, suc, _+_, _≤_, _<_}
 use mathlib.Core.Path.{_≡_, refl, sym, ap, ap₂, _∙_}
 use mathlib.Core.Logic.{_⊎_, inl, inr, ⊎-elim}
-use mathlib.Core.List.{List, [], _∷_, _++_}
+use mathlib.Core.List.{List, [], _∷_}
 use mathlib.Core.Bool.{Bool, true, false, _&&_, _||_}
 use native.Mathlib.Omega.{arith}
 use native.Mathlib.Numerals.{add-one}
@@ -13,18 +13,12 @@ use Rattle.rules.specs.Words.{if_then_else_, _=?_, smallest, row, any, among}
 use Rattle.rules.specs.Sheet.{Step, run, lock, unlock, Sheet, noTask, taskAt, without, heldOnTop, held}
 use Rattle.rules.specs.Record.{blank, recordAt, behind, carries, holds}
 use Rattle.rules.specs.declared.TaskRecord.{TaskRecord}
-use Rattle.rules.proofs.Laws.{sure, below, length-row, row-at, smallest-found, smallest-there, smallest-le, smallest-none}
+use Rattle.rules.proofs.Laws.{sure, below, length-row, row-at, smallest-found, smallest-there, smallest-le, smallest-none, row-same}
 use Rattle.table.specs.Table.{here, taskOf, noEntry, sheetOf}
 use Rattle.table.specs.declared.Table.{Table}
 use Rattle.table.specs.declared.Here.{Here}
 use Rattle.table.proofs.Laws.{entry-in, task-at, tasks-count}
 use Rattle.choice.specs.Holders.{holder, holders, holderWith, semaphoreOf, entryAfter, afterStep, afterSteps, afterJob}
-
--- rows are the same where their places are
-pub row-same : {A : Type 0} (n : ℕ) (f g : ℕ → A) → ((k : ℕ) → k < n → f k ≡ g k) → row n f ≡ row n g
-unfolding row
-row-same zero f g h = refl
-row-same (suc n) f g h = ap₂ (λ xs x. xs ++ (x ∷ [])) (row-same n f g (λ k l. h k (omega arith))) (h n (omega arith))
 
 -- sixteen entries f, of which entry s becomes another
 set-row : (s h : ℕ) (f g : ℕ → ℕ) → s < 16 → h ≡ g s → ((k : ℕ) → k < 16 → (s ≡ k → ⊥) → f k ≡ g k) → set (row 16 f) s h ≡ row 16 g
@@ -181,3 +175,8 @@ module _ (bytes : List ℕ) (table : Table) (records : List TaskRecord) where
         let n = tasks-count bytes table in
         let z : i ≡ length (sheetOf bytes table .tasks) = omega arith in
         inv ∙ ap (λ (i : ℕ). row 16 (holderWith (sheetOf bytes table) records i [])) z ∙ holders-end (sheetOf bytes table) records (omega arith)
+
+-- the holder of a semaphore, in the row of holders
+pub holder-at : (sheet : Sheet) (records : List TaskRecord) (hs : List ℕ) → hs ≡ holders sheet records → (s : ℕ) → s < 16 → getD hs s 0 ≡ holder sheet records s
+unfolding holders
+holder-at sheet records hs eh s l = ap (λ (xs : List ℕ). getD xs s 0) eh ∙ row-at 16 (holder sheet records) 0 s l

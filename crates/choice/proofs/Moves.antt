@@ -17,7 +17,7 @@ use Rattle.rules.specs.Tick.{released, afterReleases, nextRun, behindUnlocks, a
 use Rattle.rules.specs.declared.Job.{Job}
 use Rattle.rules.specs.declared.TaskRecord.{TaskRecord}
 use Rattle.rules.specs.declared.State.{State}
-use Rattle.rules.proofs.Laws.{sure, below, true-false, and-left, and-right, and-no, or-cases, or-right, implied, implies-yes, some-of, every-at, every-of, smallest-same, smallest-found, smallest-none, smallest-le, any-take, any-drop}
+use Rattle.rules.proofs.Laws.{sure, below, true-false, and-left, and-right, and-no, or-cases, or-right, implied, implies-yes, some-of, every-at, every-of, smallest-same, smallest-found, smallest-none, smallest-le, any-take, any-drop, row-same}
 use Rattle.rules.proofs.Choice.{among-without}
 use Rattle.rules.proofs.Tick.{released-cases, advanced-cases, spent-cases, released-at, past-at, spent-at}
 use Rattle.rules.proofs.Limits.{acceptedWithinLimits}
@@ -29,7 +29,7 @@ use Rattle.table.specs.Table.{here}
 use Rattle.table.specs.declared.Here.{Here}
 use Rattle.choice.specs.Holders.{Choosable, holder, holders, entryAfter, afterStep, afterSteps, reached, afterTick}
 use Rattle.choice.proofs.Steps.{barred-goes}
-use Rattle.choice.proofs.Holders.{row-same, turn-row, without-same, without-other}
+use Rattle.choice.proofs.Holders.{turn-row, without-same, without-other}
 
 -- who holds what, and no semaphore held by two
 abbrev Single : (ℕ → ℕ → Bool) → Type 0

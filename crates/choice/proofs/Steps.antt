@@ -13,7 +13,7 @@ use Rattle.rules.specs.Sheet.{Step, run, lock, unlock, Task, isRun, isLock}
 use Rattle.rules.specs.Record.{behind, ahead}
 use Rattle.rules.specs.Choice.{atRun, full, fresh, goes}
 use Rattle.rules.specs.declared.Job.{Job}
-use Rattle.rules.proofs.Laws.{sure, and-no}
+use Rattle.rules.proofs.Laws.{sure, and-no, and-true}
 use Rattle.table.specs.Table.{here, taskOf}
 use Rattle.table.specs.declared.Entry.{Entry}
 use Rattle.table.specs.declared.Here.{Here}
@@ -204,10 +204,6 @@ module _ (mode : ℕ) (task : Task) (j : Job) where
 
     goes-run : goes mode task j false ≡ not (mode =? 1 && (not (any isRun (take (j .position) (task .steps))) && j .left =? v) && any isLock (task .steps))
     goes-run = barred-goes ∙ rw (at-run, fresh-is) (and-true _)
-      where
-        and-true : (b : Bool) → (b && true) ≡ b
-        and-true true = refl
-        and-true false = refl
 
     pub goes-mode : (mode ≡ 1 → ⊥) → true ≡ goes mode task j false
     goes-mode n = sym (goes-run ∙ rw (ne-eqb mode 1 n) refl)

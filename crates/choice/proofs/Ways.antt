@@ -19,6 +19,7 @@ use Rattle.rules.proofs.Choice.{holds-locks}
 use Rattle.choice.specs.declared.Way.{Way}
 use Rattle.choice.specs.Holders.{holder, holders}
 use Rattle.choice.specs.Way.{way, byOther, nearer, nearest}
+use Rattle.choice.proofs.Holders.{holder-at}
 
 -- one semaphore, by the tests
 module _ (i c h : ℕ) (w : Way) where
@@ -186,15 +187,11 @@ module _ (sheet : Sheet) (records : List TaskRecord) (single : noneHeldByTwo she
     ceiling-at : (s : ℕ) → s < 16 → getD cs s 0 ≡ ceiling sheet s
     ceiling-at s l = ap (λ (xs : List ℕ). getD xs s 0) ec ∙ row-at 16 (ceiling sheet) 0 s l
 
-    holder-at : (s : ℕ) → s < 16 → getD hs s 0 ≡ holder sheet records s
-    unfolding holders
-    holder-at s l = ap (λ (xs : List ℕ). getD xs s 0) eh ∙ row-at 16 (holder sheet records) 0 s l
-
     scanned : (n : ℕ) → n ≤ 16 → Scanned (heldByOther sheet records i) (ceiling sheet) (holder sheet records) n (nearest i cs hs n)
     unfolding nearest nearer
     scanned zero l = inr (refl, λ u v. absurd (omega arith))
     scanned (suc n) l =
-        rw (ceiling-at n (omega arith), holder-at n (omega arith), by-other i n rank (omega arith))
+        rw (ceiling-at n (omega arith), holder-at sheet records hs eh n (omega arith), by-other i n rank (omega arith))
         (scan-on (heldByOther sheet records i) (ceiling sheet) (holder sheet records) n (nearest i cs hs n)
         (⊎-elim (λ e. inl (held-ceiling i n e)) inr (sure (heldByOther sheet records i n)))
         (scanned n (omega arith)))

@@ -12,12 +12,12 @@ use Rattle.rules.specs.Sheet.{Step, Task, Sheet, taskAt, held}
 use Rattle.rules.specs.Record.{blank, recordAt, behind, carries, holds, noneHeldByTwo}
 use Rattle.rules.specs.declared.Job.{Job}
 use Rattle.rules.specs.declared.TaskRecord.{TaskRecord}
-use Rattle.rules.proofs.Laws.{sure, below, and-at, true-false, and-left, and-right, and-both, implied, implies-no, implies-yes, denied, every-same, every-at, every-of, not-every, every-no, row-at, smallest-le, smallest-there, smallest-none}
+use Rattle.rules.proofs.Laws.{sure, below, and-at, true-false, and-left, and-right, and-both, implied, implies-no, implies-yes, denied, every-same, every-at, every-of, not-every, every-no, row-at, smallest-le, smallest-there, smallest-none, row-same}
 use Rattle.table.specs.Table.{taskOf, noEntry, sheetOf}
 use Rattle.table.specs.declared.Table.{Table}
 use Rattle.table.proofs.Laws.{entry-in, task-at, tasks-count}
 use Rattle.choice.specs.Holders.{holder, holders, holderWith, afterSteps}
-use Rattle.choice.proofs.Holders.{row-same, stepped, holds-past}
+use Rattle.choice.proofs.Holders.{stepped, holds-past, holder-at}
 use Rattle.state.specs.Holding.{sameHolder, sameHolders, holdsAlone}
 
 -- one semaphore in two rows of holders
@@ -86,10 +86,6 @@ module _ (i : ℕ) (task : Task) (j : Job) (hs : List ℕ) where
 
 -- against the holders of the sixteen records
 module _ (sheet : Sheet) (records : List TaskRecord) (hs : List ℕ) (eh : hs ≡ holders sheet records) where
-  holder-at : (s : ℕ) → s < 16 → getD hs s 0 ≡ holder sheet records s
-  unfolding holders
-  holder-at s l = ap (λ (xs : List ℕ). getD xs s 0) eh ∙ row-at 16 (holder sheet records) 0 s l
-
   -- a job that is not the holder of something it holds: the holder holds it too
   not-alone : (i : ℕ) → i < 16 → holdsAlone i (taskAt sheet i) (recordAt records i .job) hs ≡ false → false ≡ noneHeldByTwo sheet records
   unfolding holdsAlone holder noneHeldByTwo holds
@@ -102,7 +98,7 @@ module _ (sheet : Sheet) (records : List TaskRecord) (hs : List ℕ) (eh : hs �
       let too = smallest-there 16 255 (λ j. holds sheet records j s) i li (d .0) in
       sym (every-no 16 _ s (w .1) (every-no 16 _ i li (every-no 16 _ h lh
       (implies-no (holds sheet records i s && holds sheet records h s) (i =? h) (and-both _ _ (d .0) too)
-      (ne-eqb i h (λ z. eqb-false (getD hs s 0) i (d .1) (holder-at s (w .1) ∙ sym z)))))))
+      (ne-eqb i h (λ z. eqb-false (getD hs s 0) i (d .1) (holder-at sheet records hs eh s (w .1) ∙ sym z)))))))
 
   -- where each is, two that hold the same are its holder both
   all-alone : ((k : ℕ) → k < length (sheet .tasks) → holdsAlone k (taskAt sheet k) (recordAt records k .job) hs ≡ true) → true ≡ noneHeldByTwo sheet records
