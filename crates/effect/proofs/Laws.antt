@@ -1,16 +1,18 @@
 -- Laws of the tick's effect: the step at a position, a record and its rank, the sixteen records.
-use Prim.Native.Nat.{ℕ, suc, _+_, _-_, _%_, _≤_, _<_, max}
+use Prim.Native.Nat.{ℕ, suc, _+_, _-_, _*_, _/_, _%_, _≤_, _<_, max}
 use mathlib.Core.Path.{_≡_, refl, sym, ap, _∙_}
 use mathlib.Core.Logic.{⊎-elim}
 use mathlib.Core.List.{List, [], _∷_}
 use mathlib.Core.Bool.{Bool, true, false, _||_}
 use native.Mathlib.Omega.{arith}
+use native.Mathlib.Nat.{add-assoc, div-add-mod'}
+use lib.Arith.{digits-mod}
 use lib.Dec.{eqb}
 use lib.ListN.{length, getD, take, drop, set, length-set, length-drop}
 use lib.Seq.{drop-drop, ext-getD, getD-set-same, getD-set-other}
 use borrow.Author.Tests.{lt-ltb, le-ltb, le-leb, lt-leb, eq-eqb, ne-eqb, eqb-true, eqb-false}
 use Rattle.rules.specs.Words.{if_then_else_, _<?_, _=?_, any, leading}
-use Rattle.rules.specs.Sheet.{Step, run, lock, unlock, Task, taskAt, isLock, isUnlock}
+use Rattle.rules.specs.Sheet.{Step, run, lock, unlock, Task, Sheet, taskAt, isLock, isUnlock}
 use Rattle.rules.specs.Record.{noJob, blank, recordAt, ahead}
 use Rattle.rules.specs.Choice.{full, Runner, job, stuck, idle, runnerByte}
 use Rattle.rules.specs.Tick.{standing, releasesUp, missesUp, ranUp, blockedUp, completionsUp, releasesAt, released, afterReleases, nextRun, leftOfRun, behindUnlocks, advanced, spent, afterRunner, closed}
@@ -25,7 +27,7 @@ use Rattle.table.specs.declared.Entry.{Entry}
 use Rattle.table.specs.declared.Table.{Table}
 use Rattle.table.specs.declared.Here.{Here}
 use Rattle.table.proofs.Laws.{entry-in, task-at, tasks-count}
-use Rattle.effect.specs.Effect.{withTasks, runnerOf, changedBelow, blockedOnce, eachBlocked}
+use Rattle.effect.specs.Effect.{withTasks, runnerOf, Rests, Quiet, changedBelow, blockedOnce, eachBlocked}
 
 -- what the first of some steps says: the ticks left on coming to it, whether it is a lock, whether it is an unlock
 unfoldable pub leftHere : Here → ℕ
@@ -119,6 +121,24 @@ module _ (t : ℕ) (task : Task) where
   pub releases-then : task .offset ≤ t → eqb ((t - task .offset) % task .period) 0 ≡ releasesAt t task
   unfolding releasesAt
   releases-then l = rw (le-leb (task .offset) t l) refl
+
+-- it has none before its next one
+not-due : (x d q p since : ℕ) → x ≡ q * p + since → since + d < p → 1 ≤ d → eqb ((x + d) % p) 0 ≡ false
+not-due x d q p since e l g =
+    rw (ap (λ (y : ℕ). (y + d) % p) e ∙ ap (λ (y : ℕ). y % p) (add-assoc (q * p) since d) ∙ digits-mod q l) (ne-eqb (since + d) 0 (λ z. omega arith))
+
+module _ (t : ℕ) (task : Task) where
+  pub rests-early : t < task .offset → Rests (t + 1) (task .offset) task
+  unfolding releasesAt
+  rests-early l k f h = rw (lt-leb (task .offset) k h) refl
+
+  pub rests-then : task .offset ≤ t → Rests (t + 1) (t + (task .period - (t - task .offset) % task .period)) task
+  unfolding releasesAt
+  rests-then l k f h =
+      let x = t - task .offset in
+      let p = task .period in
+      let split : k - task .offset ≡ x + (k - t) = omega arith in
+      rw (le-leb (task .offset) k (omega arith), split) (not-due x (k - t) (x / p) p (x % p) (sym (div-add-mod' x p)) (omega arith) (omega arith))
 
 -- and what it makes of the record
 module _ (t : ℕ) (task : Task) (r : TaskRecord) where
@@ -299,6 +319,25 @@ module _ (bytes : List ℕ) (table : Table) (st : State) where
     releases-no e =
         inv ∙ ap (withTasks st) (changed-same (releasing bytes table (st .t)) (st .tasks) i (omega arith)
         (released-not (st .t) (taskAt (sheetOf bytes table) i) (recordAt (st .tasks) i) (ap (releasesAt (st .t)) (sym task-here) ∙ e)))
+
+-- where no task has a release nothing is released
+pub releases-quiet : (sheet : Sheet) (st : State) (due : ℕ) → length (st .tasks) ≡ 16 → Quiet (st .t) due sheet → st .t < due → st ≡ withTasks st (afterReleases sheet st)
+unfolding afterReleases recordAt
+releases-quiet sheet st due z quiet l = ap (withTasks st) (same-records (st .tasks) (afterReleases sheet st) z (length-row 16 _) (λ i u. sym (row-at 16 _ blank i u ∙ ⊎-elim
+    (λ (v : i < length (sheet .tasks)). rw (lt-ltb i (length (sheet .tasks)) v) (released-not (st .t) (taskAt sheet i) (recordAt (st .tasks) i) (quiet i v (st .t) (omega arith) l)))
+    (λ (v : length (sheet .tasks) ≤ i). rw (le-ltb i (length (sheet .tasks)) v) refl)
+    (below i (length (sheet .tasks))))))
+
+-- the quiet ticks, one task more
+module _ (bytes : List ℕ) (table : Table) (from i : ℕ) (l : i < table .n) (due next both : ℕ) (first : both ≤ due) (second : both ≤ next)
+    (inv : (j : ℕ) → j < i → Rests from due (taskAt (sheetOf bytes table) j)) (e : Entry) (here : e ≡ entryOf table i) (rests : Rests from next (taskOf bytes e)) where
+  pub quiet-more : (j : ℕ) → j < i + 1 → Rests from both (taskAt (sheetOf bytes table) j)
+  quiet-more j u k f h = ⊎-elim
+      (λ (v : j < i). inv j v k f (omega arith))
+      (λ (v : i ≤ j).
+      let z : j ≡ i = omega arith in
+      ap (λ (n : ℕ). releasesAt k (taskAt (sheetOf bytes table) n)) z ∙ ap (releasesAt k) (task-at bytes table i ∙ ap (taskOf bytes) (sym here)) ∙ rests k f (omega arith))
+      (below j i)
 
 -- rule 6: the jobs above the runner
 pub blocked-yes : (r : TaskRecord) → r .job .pending ≡ true → (c : Counts) → c ≡ blockedUp (r .counts) → record { job = r .job; counts = c } ≡ blockedOnce r

@@ -1,9 +1,13 @@
 -- What the contracts say beside the rules: a state with other records, the runner that a byte names, room to count on.
-use Prim.Native.Nat.{ℕ, _<_}
+use Prim.Native.Nat.{ℕ, _≤_, _<_}
+use mathlib.Core.Path.{_≡_}
 use mathlib.Core.List.{List}
+use mathlib.Core.Bool.{false}
+use lib.ListN.{length}
 use Rattle.rules.specs.Words.{if_then_else_, _<?_, _=?_, row}
+use Rattle.rules.specs.Sheet.{Task, Sheet, taskAt}
 use Rattle.rules.specs.Record.{recordAt}
-use Rattle.rules.specs.Tick.{blockedUp}
+use Rattle.rules.specs.Tick.{blockedUp, releasesAt}
 use Rattle.rules.specs.Choice.{Runner, job, stuck, idle}
 use Rattle.rules.specs.declared.Counts.{Counts}
 use Rattle.rules.specs.declared.TaskRecord.{TaskRecord}
@@ -27,6 +31,13 @@ pub record CountsBelow (m : ℕ) (c : Counts) : Type 0 where
 
 abbrev pub AllBelow : (m : ℕ) → List TaskRecord → Type 0
 AllBelow m records = (i : ℕ) → i < 16 → CountsBelow m (recordAt records i .counts)
+
+-- From one tick up to another a task has no release; none of a sheet's has.
+abbrev pub Rests : (from to : ℕ) → Task → Type 0
+Rests from to task = (k : ℕ) → from ≤ k → k < to → releasesAt k task ≡ false
+
+abbrev pub Quiet : (from to : ℕ) → Sheet → Type 0
+Quiet from to sheet = (i : ℕ) → i < length (sheet .tasks) → Rests from to (taskAt sheet i)
 
 -- Each record of a rank below n changed by f, which is told the rank; the others as they are.
 unfoldable pub changedBelow : (n : ℕ) → (ℕ → TaskRecord → TaskRecord) → List TaskRecord → List TaskRecord

@@ -17,7 +17,7 @@ ghost use Rattle.rules.specs.Sheet.{isLock, isUnlock};
 ghost use Rattle.rules.specs.Choice.{full, job};
 ghost use Rattle.rules.specs.Tick.{releasesUp, missesUp, ranUp, blockedUp, completionsUp, releasesAt, released, afterReleases, leftOfRun, nextRun, advanced, spent, afterRunner, closed};
 ghost use Rattle.table.specs.Table.{taskOf, sheetOf, Lies, Tabled};
-ghost use Rattle.effect.specs.Effect.{withTasks, runnerOf, CountsBelow, AllBelow, eachBlocked};
+ghost use Rattle.effect.specs.Effect.{withTasks, runnerOf, CountsBelow, AllBelow, Rests, Quiet, eachBlocked};
 
 // Counts that have risen by one.
 fn releases_up(c: Counts) -> Counts
@@ -146,6 +146,44 @@ pub fn after_releases(s: &[u8], table: Table, st: State) -> State
         i += 1;
     }
     next
+}
+
+// The task's first release after t.
+fn next_release(t: u16, e: Entry) -> u32
+    requires { ⌜ 1 ≤ e .period ⌝ }
+    ensures { λ r. ⌜ ((bytes : List ℕ) → Rests (t + 1) r (taskOf bytes e)) ⌝ }
+{
+    if t < e.offset {
+        return e.offset as u32;
+    }
+    let since = (t - e.offset) % e.period;
+    (t as u32) + ((e.period - since) as u32)
+}
+
+fn smaller(a: u32, b: u32) -> u32
+    ensures { λ r. ⌜ (r ≤ a) × (r ≤ b) ⌝ }
+{
+    if a < b {
+        return a;
+    }
+    b
+}
+
+// A tick before which no task has a release after t: the first of their next ones, 60,000 at most, where every run has ended.
+pub fn quiet_until(s: &[u8], table: Table, t: u16) -> u32
+    requires { ⌜ Tabled (now s) table ⌝ }
+    ensures { λ r. ⌜ Quiet (t + 1) r (sheetOf (now (s .entry)) table) ⌝ }
+{
+    let n = table.n as usize;
+    let mut due: u32 = 60000;
+    let mut i: usize = 0;
+    while i < n {
+        let e = table.entries[i];
+        let next = next_release(t, e);
+        due = smaller(due, next);
+        i += 1;
+    }
+    due
 }
 
 // Whether a lock stands at a position.

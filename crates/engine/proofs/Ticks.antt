@@ -1,30 +1,44 @@
 -- Laws of a tick and of a run: what each part of a tick asks, and one tick more.
-use Prim.Native.Nat.{ℕ, suc, _+_, _≤_, _<_}
+use Prim.Native.Nat.{ℕ, zero, suc, _+_, _≤_, _<_}
 use mathlib.Core.Path.{_≡_, refl, sym, ap, _∙_, subst}
-use mathlib.Core.Logic.{⊎-elim}
 use mathlib.Core.List.{List, [], _∷_, _++_, append-assoc}
-use mathlib.Core.Bool.{true, false, _&&_}
+use mathlib.Core.Bool.{true}
 use native.Mathlib.Omega.{arith}
 use native.Mathlib.Numerals.{add-one}
-use lib.ListN.{length, getD, set, drop, List·getD-eq-default}
+use lib.ListN.{length, getD, set, drop}
 use lib.Seq.{drop-cons, set-at}
-use Rattle.rules.specs.Words.{_≤?_, every, row}
-use Rattle.rules.specs.Sheet.{Sheet}
+use borrow.Author.Tests.{lt-ltb}
+use Rattle.rules.specs.Words.{row}
+use Rattle.rules.specs.Sheet.{Task, Sheet, taskAt}
 use Rattle.rules.specs.Reading.{read, readSheet}
-use Rattle.rules.specs.Record.{blank, start, recordAt, runnerFits, recordFits, noneHeldByTwo, possible}
+use Rattle.rules.specs.Record.{start, recordAt, possible}
 use Rattle.rules.specs.Choice.{Runner, job, runnerByte, runner}
 use Rattle.rules.specs.Tick.{afterReleases, afterRunner, closed, tick}
 use Rattle.rules.specs.Run.{after, trace, written}
 use Rattle.rules.specs.declared.TaskRecord.{TaskRecord}
 use Rattle.rules.specs.declared.State.{State}
-use Rattle.rules.proofs.Laws.{below, and-right, length-row}
+use Rattle.rules.proofs.Laws.{length-row}
 use Rattle.rules.proofs.Possible.{Possible, possible-parts}
 use Rattle.rules.proofs.Walk.{runner-runs}
-use Rattle.rules.proofs.Kept.{startPossible, released-rising, released-past, after-time, after-possible}
-use Rattle.choice.specs.Holders.{Choosable}
-use Rattle.choice.proofs.Moves.{choosable as choosable-released}
-use Rattle.effect.specs.Effect.{withTasks, runnerOf, AllBelow}
+use Rattle.rules.proofs.Kept.{startPossible, released-rising, after-time, after-possible}
+use Rattle.choice.specs.Holders.{Choosable, holders, afterTick}
+use Rattle.choice.proofs.Moves.{choosable as choosable-released, holders-released, holders-still, holders-ticked}
+use Rattle.effect.specs.Effect.{withTasks, runnerOf, AllBelow, Quiet}
 use Rattle.effect.proofs.Laws.{byte-back}
+
+-- the byte of the runner names it, and its tick is that of the rules
+module _ (sheet : Sheet) (st a : State) (x : ℕ) (ea : a ≡ withTasks st (afterReleases sheet st)) (ex : x ≡ runnerByte (runner sheet (a .tasks))) where
+  pub byte-of : x ≡ runnerByte (runner sheet (afterReleases sheet st))
+  byte-of = ex ∙ ap (λ (y : State). runnerByte (runner sheet (y .tasks))) ea
+
+  pub runner-of : runnerOf x ≡ runner sheet (afterReleases sheet st)
+  runner-of = ap runnerOf byte-of ∙ byte-back (runner sheet (afterReleases sheet st)) (λ k z. runner-runs sheet (afterReleases sheet st) k z .rank)
+
+pub ran-parts : (sheet : Sheet) (st a b : State) (x : ℕ) → a ≡ withTasks st (afterReleases sheet st) → x ≡ runnerByte (runner sheet (a .tasks))
+    → b ≡ withTasks a (afterRunner (runnerOf x) sheet (a .t) (a .tasks)) → b ≡ withTasks st (afterRunner (runner sheet (afterReleases sheet st)) sheet (st .t) (afterReleases sheet st))
+ran-parts sheet st a b x ea ex eb =
+    eb ∙ ap (λ (y : State). withTasks y (afterRunner (runnerOf x) sheet (y .t) (y .tasks))) ea
+    ∙ ap (λ (y : Runner). withTasks st (afterRunner y sheet (st .t) (afterReleases sheet st))) (runner-of sheet st a x ea ex)
 
 -- a possible state has room to count on, before the releases and after them, and leaves the choice nothing open
 module _ (bytes : List ℕ) (sheet : Sheet) (e : readSheet bytes ≡ read sheet) (st : State) (p : possible sheet st ≡ true) (early : st .t < 60000) where
@@ -63,17 +77,68 @@ module _ (bytes : List ℕ) (sheet : Sheet) (e : readSheet bytes ≡ read sheet)
     pub choosable : Choosable sheet (a .tasks)
     choosable = subst (Choosable sheet) (sym records) (choosable-released bytes sheet e st parts)
 
+    pub sized-after : length (a .tasks) ≡ 16
+    unfolding afterReleases
+    sized-after = ap length records ∙ length-row 16 _
+
+    pub holders-kept : (hs : List ℕ) → hs ≡ holders sheet (st .tasks) → hs ≡ holders sheet (a .tasks)
+    holders-kept hs eh = eh ∙ sym (holders-released sheet st) ∙ ap (holders sheet) (sym records)
+
+    module _ (x : ℕ) (ex : x ≡ runnerByte (runner sheet (a .tasks))) (b : State) (eb : b ≡ withTasks a (afterRunner (runnerOf x) sheet (a .t) (a .tasks)))
+        (hs : List ℕ) (eh : hs ≡ holders sheet (st .tasks)) where
+      abbrev next : List TaskRecord
+      next = afterRunner (runner sheet (afterReleases sheet st)) sheet (st .t) (afterReleases sheet st)
+
+      spent : b .tasks ≡ next
+      spent = ap (λ (y : State). y .tasks) (ran-parts sheet st a b x ea ex eb)
+
+      -- the holders, where nobody runs
+      pub holders-nobody : 16 ≤ x → hs ≡ holders sheet (b .tasks)
+      unfolding runnerByte
+      holders-nobody h =
+          holders-kept hs eh ∙ ap (holders sheet) records
+          ∙ sym (holders-still bytes sheet e st parts (λ i z.
+          let byte : x ≡ i = byte-of sheet st a x ea ex ∙ ap runnerByte z in
+          let rank = runner-runs sheet (afterReleases sheet st) i z .rank in
+          omega arith))
+          ∙ ap (holders sheet) (sym spent)
+
+      -- and where a job runs
+      pub holders-runner : x < 16 → (task : Task) → task ≡ taskAt sheet x → (held : List ℕ)
+          → held ≡ afterTick x task (recordAt (a .tasks) x .job) (recordAt (b .tasks) x .job) hs → held ≡ holders sheet (b .tasks)
+      unfolding runnerOf
+      holders-runner h task et held ed =
+          let who : runner sheet (afterReleases sheet st) ≡ job x = sym (runner-of sheet st a x ea ex) ∙ rw (lt-ltb x 16 h) refl in
+          ed
+          ∙ ap (λ (y : Task). afterTick x y (recordAt (a .tasks) x .job) (recordAt (b .tasks) x .job) hs) et
+          ∙ ap (λ (y : List TaskRecord). afterTick x (taskAt sheet x) (recordAt y x .job) (recordAt (b .tasks) x .job) hs) records
+          ∙ ap (λ (y : List TaskRecord). afterTick x (taskAt sheet x) (recordAt (afterReleases sheet st) x .job) (recordAt y x .job) hs) spent
+          ∙ ap (afterTick x (taskAt sheet x) (recordAt (afterReleases sheet st) x .job) (recordAt next x .job)) (holders-kept hs eh ∙ ap (holders sheet) records)
+          ∙ sym (holders-ticked bytes sheet e st parts x who early)
+          ∙ ap (holders sheet) (sym spent)
+
 -- the parts of a tick are the tick
 pub tick-parts : (sheet : Sheet) (st a b r : State) (x : ℕ) → a ≡ withTasks st (afterReleases sheet st) → x ≡ runnerByte (runner sheet (a .tasks))
     → b ≡ withTasks a (afterRunner (runnerOf x) sheet (a .t) (a .tasks)) → r ≡ closed b x (b .tasks) → r ≡ tick sheet st
 unfolding tick closed
 tick-parts sheet st a b r x ea ex eb er =
-    let released = afterReleases sheet st in
-    let byte : x ≡ runnerByte (runner sheet released) = ex ∙ ap (λ (y : State). runnerByte (runner sheet (y .tasks))) ea in
-    let who : runnerOf x ≡ runner sheet released = ap runnerOf byte ∙ byte-back (runner sheet released) (λ k z. runner-runs sheet released k z .rank) in
-    let ran : b ≡ withTasks st (afterRunner (runner sheet released) sheet (st .t) released) =
-    eb ∙ ap (λ (y : State). withTasks y (afterRunner (runnerOf x) sheet (y .t) (y .tasks))) ea ∙ ap (λ (y : Runner). withTasks st (afterRunner y sheet (st .t) released)) who in
-    er ∙ ap (λ (y : State). closed y x (y .tasks)) ran ∙ ap (λ (y : ℕ). closed st y (afterRunner (runner sheet released) sheet (st .t) released)) byte
+    er ∙ ap (λ (y : State). closed y x (y .tasks)) (ran-parts sheet st a b x ea ex eb)
+    ∙ ap (λ (y : ℕ). closed st y (afterRunner (runner sheet (afterReleases sheet st)) sheet (st .t) (afterReleases sheet st))) (byte-of sheet st a x ea ex)
+
+-- what the end of a tick sets, and what it leaves
+module _ (b next : State) (x : ℕ) (e : next ≡ closed b x (b .tasks)) where
+  pub closed-last : x ≡ next .last
+  unfolding closed
+  closed-last = sym (ap (λ (y : State). y .last) e)
+
+  pub closed-tasks : b .tasks ≡ next .tasks
+  unfolding closed
+  closed-tasks = sym (ap (λ (y : State). y .tasks) e)
+
+-- no release before `due` is none from the next tick on
+pub quiet-on : (sheet : Sheet) (st next : State) (due : ℕ) → next ≡ tick sheet st → Quiet (st .t + 1) due sheet → Quiet (next .t) due sheet
+unfolding tick closed
+quiet-on sheet st next due en quiet i l k f h = let time = ap (λ (y : State). y .t) en in quiet i l k (omega arith) h
 
 -- one tick more
 pub after-more : (sheet : Sheet) (k : ℕ) (st next : State) → st ≡ after k sheet start → next ≡ tick sheet st → next ≡ after (k + 1) sheet start
@@ -97,6 +162,11 @@ written-more sheet k buffer bytes x l inv e =
     ∙ sym (append-assoc (trace k sheet start) (byte ∷ []) (drop (suc k) buffer))
     ∙ ap (λ (n : ℕ). written n sheet start buffer) (sym (add-one k))
 
+after-sized : (k : ℕ) (sheet : Sheet) → length (after k sheet start .tasks) ≡ 16
+unfolding after tick closed afterRunner
+after-sized zero sheet = refl
+after-sized (suc k) sheet = length-row 16 _
+
 -- a run that has not ended stands in a possible state below tick 60,000
 module _ (bytes : List ℕ) (sheet : Sheet) (e : readSheet bytes ≡ read sheet) (k : ℕ) (l : k < 60000) (st : State) (inv : st ≡ after k sheet start) where
   pub run-time : st .t < 60000
@@ -104,3 +174,6 @@ module _ (bytes : List ℕ) (sheet : Sheet) (e : readSheet bytes ≡ read sheet)
 
   pub run-possible : possible sheet st ≡ true
   run-possible = ap (possible sheet) inv ∙ after-possible bytes sheet e k start (startPossible bytes sheet e) (omega arith)
+
+  pub run-sized : length (st .tasks) ≡ 16
+  run-sized = ap (λ (x : State). length (x .tasks)) inv ∙ after-sized k sheet

@@ -66,6 +66,8 @@ fn start_state() -> State
 }
 
 // A whole run of h ticks from the start, one runner byte per tick into the first h bytes of the trace; later bytes stay.
+// It keeps the holders at hand, and a tick before which no task has a release, so that most ticks look for neither.
+// The state changes where it stands: handed from function to function at each tick, its copies would take most of the time.
 pub fn run_of(s: &[u8], table: Table, cs: [u8; 16], h: u16, trace: &mut [u8]) -> State
     requires { ⌜ Tabled (now s) table ⌝ }
     requires { ⌜ cs ≡ row 16 (ceiling (sheetOf (now s) table)) ⌝ }
@@ -76,11 +78,30 @@ pub fn run_of(s: &[u8], table: Table, cs: [u8; 16], h: u16, trace: &mut [u8]) ->
 {
     let end = h as usize;
     let mut st = start_state();
+    let mut hs = [255u8; 16];
+    let mut due: u32 = 0;
     let mut k: usize = 0;
     while k < end {
-        let next = tick_of(s, table, cs, st);
-        trace[k] = next.last;
+        let t = st.t;
+        if due <= t as u32 {
+            let released = effect::after_releases(s, table, st);
+            st = released;
+            due = effect::quiet_until(s, table, t);
+        }
+        let x = choice::runner_with(s, table, cs, hs, st);
+        if x < 16 {
+            let i = x as usize;
+            let e = table::entry_at(table, i);
+            let before = st.tasks[i];
+            let ran = effect::after_runner(s, table, x, st);
+            st = ran;
+            let after = st.tasks[i];
+            let held = choice::holders_after(s, e, x, before.job, after.job, hs);
+            hs = held;
+        }
+        let next = effect::closed(x, st);
         st = next;
+        trace[k] = x;
         k += 1;
     }
     st

@@ -1,39 +1,136 @@
 use Prim.Native.Nat.{ℕ, _≤_, _<_, _-_}
-use mathlib.Core.Path.{_≡_, _∙_, refl, ap}
+use mathlib.Core.Path.{_≡_, _∙_, refl, sym, ap}
+use mathlib.Core.Logic.{⊎-elim}
 use native.Mathlib.Omega.{arith}
 use lib.ListN.{length, length-set}
 use denote.Ref.{now}
 use borrow.Author.Needs.{needs}
-use Rattle.rules.specs.Record.{start}
+use Rattle.rules.specs.Record.{start, recordAt}
+use Rattle.rules.specs.Tick.{afterReleases, afterRunner, closed, tick}
 use Rattle.rules.specs.Run.{after, written}
 use Rattle.rules.specs.declared.State.{State}
-use Rattle.table.specs.Table.{sheetOf}
-use Rattle.engine.proofs.Ticks.{after-more, written-none, written-more, run-time, run-possible}
+use Rattle.table.specs.Table.{taskOf, sheetOf}
+use Rattle.table.proofs.Laws.{task-at, lies-from}
+use Rattle.choice.specs.Holders.{holders}
+use Rattle.choice.proofs.Moves.{holders-start}
+use Rattle.effect.specs.Effect.{withTasks, runnerOf, Quiet}
+use Rattle.effect.proofs.Laws.{releases-quiet, ran-nobody}
+use Rattle.engine.proofs.Ticks.{room, room-after, switches-room, choosable, sized-after, holders-kept, holders-nobody, holders-runner, tick-parts, closed-last, closed-tasks, quiet-on, after-more, written-none, written-more, run-time, run-possible, run-sized}
 use Rattle.engine.proofs.run_of.Statement.{statement}
 use Rattle.engine.proofs.run_of.Tie as tie
 
 abbrev Inv-loop : tie.InvT-loop
-Inv-loop s table cs h trace₀ end st₀ k₀ trace st k =
+Inv-loop s table cs h trace₀ end st₀ hs₀ due₀ k₀ trace st hs due k =
     (k ≤ end) × (length trace ≡ length trace₀) × (st ≡ after k (sheetOf s table) start) × (trace ≡ written k (sheetOf s table) start trace₀)
+    × (hs ≡ holders (sheetOf s table) (st .tasks)) × Quiet (st .t) due (sheetOf s table)
 
 abbrev μ-loop : tie.MeasureT-loop
-μ-loop s table cs h trace₀ end st₀ k₀ trace st k = end - k
+μ-loop s table cs h trace₀ end st₀ hs₀ due₀ k₀ trace st hs due k = end - k
 
 start-state-requires : tie.Need-start-state-requires Inv-loop μ-loop
 start-state-requires c κs = search needs
 
 loop-holds : tie.Need-loop-holds Inv-loop μ-loop
 unfolding after
-loop-holds c = (omega arith, refl, c .start-state .ensures, written-none _ _)
+loop-holds c =
+    let b = c .before .before .before in
+    let z = c .start-state .ensures in
+    let sheet = sheetOf (now (b .args .s)) (b .args .table) in
+    (omega arith, refl, z, written-none _ _, sym (ap (λ (x : State). holders sheet (x .tasks)) z ∙ holders-start sheet), λ i l k f h. absurd (omega arith))
 
-tick-of-requires : tie.Need-tick-of-requires Inv-loop μ-loop
-tick-of-requires c κs =
+cast-if1 : tie.Need-cast-if1 Inv-loop μ-loop
+cast-if1 c =
     let b = c .before .before .before .before .before in
     let l = c .before .loop in
     let bytes = now (b .args .s) in
     let sheet = sheetOf bytes (b .args .table) in
     let early : l .k < 60000 = omega (arith, b .pre .1 .1 .0) in
-    (b .pre .0, (b .pre .1 .0, (run-possible bytes sheet (b .pre .0 .reads) (l .k) early (l .st) (l .inv .2), run-time bytes sheet (b .pre .0 .reads) (l .k) early (l .st) (l .inv .2))))
+    let time = run-time bytes sheet (b .pre .0 .reads) (l .k) early (l .st) (l .inv .2) in
+    omega (arith, time)
+
+after-releases-requires : tie.Need-after-releases-requires Inv-loop μ-loop
+after-releases-requires c κs =
+    let b = c .before .before .before .before .before .before in
+    let l = c .before .before .loop in
+    let bytes = now (b .args .s) in
+    let sheet = sheetOf bytes (b .args .table) in
+    let early : l .k < 60000 = omega (arith, b .pre .1 .1 .0) in
+    let time = run-time bytes sheet (b .pre .0 .reads) (l .k) early (l .st) (l .inv .2) in
+    let possible = run-possible bytes sheet (b .pre .0 .reads) (l .k) early (l .st) (l .inv .2) in
+    (b .pre .0, room bytes sheet (b .pre .0 .reads) (l .st) possible time)
+
+quiet-until-requires : tie.Need-quiet-until-requires Inv-loop μ-loop
+quiet-until-requires c κs = search needs
+
+runner-with-requires : tie.Need-runner-with-requires Inv-loop μ-loop
+runner-with-requires c κs =
+    let b = c .before .before .before .before .before .before in
+    let l = c .before .before .loop in
+    let bytes = now (b .args .s) in
+    let sheet = sheetOf bytes (b .args .table) in
+    let early : l .k < 60000 = omega (arith, b .pre .1 .1 .0) in
+    let time = run-time bytes sheet (b .pre .0 .reads) (l .k) early (l .st) (l .inv .2) in
+    let possible = run-possible bytes sheet (b .pre .0 .reads) (l .k) early (l .st) (l .inv .2) in
+    let a = c .if1 .st in
+    let released : a ≡ withTasks (l .st) (afterReleases sheet (l .st)) =
+    ⊎-elim (λ w. w .3 ∙ w .1 .ensures) (λ w. w .1 ∙ releases-quiet sheet (l .st) (l .due) (run-sized bytes sheet (b .pre .0 .reads) (l .k) early (l .st) (l .inv .2)) (l .inv .5) (w .0 .left)) (c .if1 .came) in
+    (b .pre .0, (b .pre .1 .0, (holders-kept bytes sheet (b .pre .0 .reads) (l .st) possible time a released (l .hs) (l .inv .4), choosable bytes sheet (b .pre .0 .reads) (l .st) possible time a released)))
+
+cast-i : tie.Need-cast-i Inv-loop μ-loop
+cast-i c = search needs
+
+entry-at-requires : tie.Need-entry-at-requires Inv-loop μ-loop
+entry-at-requires c κs = search needs
+
+mul-before : tie.Need-mul-before Inv-loop μ-loop
+mul-before c = omega arith
+
+element-copy-out-before : tie.Need-element-copy-out-before Inv-loop μ-loop
+element-copy-out-before c = omega arith
+
+after-runner-requires : tie.Need-after-runner-requires Inv-loop μ-loop
+after-runner-requires c κs =
+    let b = c .before .before .before .before .before .before .before .before .before .before in
+    let l = c .before .before .before .before .before .before .loop in
+    let bytes = now (b .args .s) in
+    let sheet = sheetOf bytes (b .args .table) in
+    let early : l .k < 60000 = omega (arith, b .pre .1 .1 .0) in
+    let time = run-time bytes sheet (b .pre .0 .reads) (l .k) early (l .st) (l .inv .2) in
+    let possible = run-possible bytes sheet (b .pre .0 .reads) (l .k) early (l .st) (l .inv .2) in
+    let a = c .before .before .before .before .if1 .st in
+    let released : a ≡ withTasks (l .st) (afterReleases sheet (l .st)) =
+    ⊎-elim (λ w. w .3 ∙ w .1 .ensures) (λ w. w .1 ∙ releases-quiet sheet (l .st) (l .due) (run-sized bytes sheet (b .pre .0 .reads) (l .k) early (l .st) (l .inv .2)) (l .inv .5) (w .0 .left)) (c .before .before .before .before .if1 .came) in
+    (b .pre .0, (room-after bytes sheet (b .pre .0 .reads) (l .st) possible time a released, omega (arith, time, ap (λ (x : State). x .t) released)))
+
+mul-after : tie.Need-mul-after Inv-loop μ-loop
+mul-after c = omega arith
+
+element-copy-out-after : tie.Need-element-copy-out-after Inv-loop μ-loop
+element-copy-out-after c = omega arith
+
+holders-after-requires : tie.Need-holders-after-requires Inv-loop μ-loop
+holders-after-requires c κs =
+    let b = c .before .before .before .before .before .before .before .before .before .before .before .before in
+    lies-from (now (b .args .s)) (b .args .table) _ (c .before .before .before .entry-at .result) (b .pre .0) (c .before .before .before .entry-at .ensures)
+
+closed-requires : tie.Need-closed-requires Inv-loop μ-loop
+closed-requires c κs =
+    let b = c .before .before .before .before .before .before .before .before in
+    let l = c .before .before .before .before .loop in
+    let bytes = now (b .args .s) in
+    let sheet = sheetOf bytes (b .args .table) in
+    let early : l .k < 60000 = omega (arith, b .pre .1 .1 .0) in
+    let time = run-time bytes sheet (b .pre .0 .reads) (l .k) early (l .st) (l .inv .2) in
+    let possible = run-possible bytes sheet (b .pre .0 .reads) (l .k) early (l .st) (l .inv .2) in
+    let a = c .before .before .if1 .st in
+    let released : a ≡ withTasks (l .st) (afterReleases sheet (l .st)) =
+    ⊎-elim (λ w. w .3 ∙ w .1 .ensures) (λ w. w .1 ∙ releases-quiet sheet (l .st) (l .due) (run-sized bytes sheet (b .pre .0 .reads) (l .k) early (l .st) (l .inv .2)) (l .inv .5) (w .0 .left)) (c .before .before .if1 .came) in
+    let x = c .before .runner-with .result in
+    let ran : c .if2 .st ≡ withTasks a (afterRunner (runnerOf x) sheet (a .t) (a .tasks)) =
+    ⊎-elim (λ w. w .6 ∙ w .3 .ensures) (λ w. w .1 ∙ ran-nobody bytes (b .args .table) a x (w .0 .left) (sized-after bytes sheet (b .pre .0 .reads) (l .st) possible time a released)) (c .if2 .came) in (
+      omega (arith, time, ap (λ (x : State). x .t) released, ap (λ (x : State). x .t) ran),
+      omega (arith, switches-room bytes sheet (b .pre .0 .reads) (l .st) possible time, ap (λ (x : State). x .switches) released, ap (λ (x : State). x .switches) ran),
+    )
 
 slice-write-trace : tie.Need-slice-write-trace Inv-loop μ-loop
 slice-write-trace c = omega arith
@@ -45,16 +142,41 @@ loop-less : tie.Need-loop-less Inv-loop μ-loop
 loop-less c = omega arith
 
 loop-again : tie.Need-loop-again Inv-loop μ-loop
+unfolding recordAt
 loop-again c =
-    let b = c .before .before .before .before .before .before in
-    let l = c .before .before .loop in
-    let sheet = sheetOf (now (b .args .s)) (b .args .table) in
-    let next = after-more sheet (l .k) (l .st) (c .tick-of .result) (l .inv .2) (c .tick-of .ensures) in
+    let b = c .before .before .before .before .before .before .before .before .before in
+    let l = c .before .before .before .before .before .loop in
+    let bytes = now (b .args .s) in
+    let sheet = sheetOf bytes (b .args .table) in
+    let early : l .k < 60000 = omega (arith, b .pre .1 .1 .0) in
+    let time = run-time bytes sheet (b .pre .0 .reads) (l .k) early (l .st) (l .inv .2) in
+    let possible = run-possible bytes sheet (b .pre .0 .reads) (l .k) early (l .st) (l .inv .2) in
+    let a = c .before .before .before .if1 .st in
+    let released : a ≡ withTasks (l .st) (afterReleases sheet (l .st)) =
+    ⊎-elim (λ w. w .3 ∙ w .1 .ensures) (λ w. w .1 ∙ releases-quiet sheet (l .st) (l .due) (run-sized bytes sheet (b .pre .0 .reads) (l .k) early (l .st) (l .inv .2)) (l .inv .5) (w .0 .left)) (c .before .before .before .if1 .came) in
+    let x = c .before .before .runner-with .result in
+    let ran : c .before .if2 .st ≡ withTasks a (afterRunner (runnerOf x) sheet (a .t) (a .tasks)) =
+    ⊎-elim (λ w. w .6 ∙ w .3 .ensures) (λ w. w .1 ∙ ran-nobody bytes (b .args .table) a x (w .0 .left) (sized-after bytes sheet (b .pre .0 .reads) (l .st) possible time a released)) (c .before .if2 .came) in
+    let next = c .closed .result in
+    let ticked : next ≡ tick sheet (l .st) = tick-parts sheet (l .st) a (c .before .if2 .st) next x released (c .before .before .runner-with .ensures) ran (c .closed .ensures) in
+    let on = after-more sheet (l .k) (l .st) next (l .inv .2) ticked in
     let inside : l .k < length (now (b .args .trace)) = omega (arith, b .pre .1 .1 .1) in (
       omega arith,
-      length-set (l .trace) (l .k) (c .tick-of .result .last) ∙ l .inv .1,
-      next,
-      written-more sheet (l .k) (now (b .args .trace)) (l .trace) (c .tick-of .result .last) inside (l .inv .3) (ap (λ (x : State). x .last) next),
+      length-set (l .trace) (l .k) x ∙ l .inv .1,
+      on,
+      written-more sheet (l .k) (now (b .args .trace)) (l .trace) x inside (l .inv .3) (closed-last (c .before .if2 .st) next x (c .closed .ensures) ∙ ap (λ (y : State). y .last) on),
+      ⊎-elim
+          (λ w. w .7
+          ∙ holders-runner bytes sheet (b .pre .0 .reads) (l .st) possible time a released x (c .before .before .runner-with .ensures) (w .3 .result) (w .3 .ensures) (l .hs) (l .inv .4)
+          (w .0 .taken) (taskOf bytes (w .1 .result)) (ap (taskOf bytes) (w .1 .ensures) ∙ sym (task-at bytes (b .args .table) x)) (w .5 .result) (w .5 .ensures)
+          ∙ ap (λ (y : State). holders sheet (y .tasks)) (sym (w .6)))
+          (λ w. w .2 ∙ holders-nobody bytes sheet (b .pre .0 .reads) (l .st) possible time a released x (c .before .before .runner-with .ensures) (c .before .if2 .st) ran (l .hs) (l .inv .4) (w .0 .left))
+          (c .before .if2 .came)
+          ∙ ap (holders sheet) (closed-tasks (c .before .if2 .st) next x (c .closed .ensures)),
+      quiet-on sheet (l .st) next (c .before .before .before .if1 .due) ticked (⊎-elim
+          (λ w. λ i u k f h. w .2 .ensures i u k f (omega (arith, w .4)))
+          (λ w. λ i u k f h. l .inv .5 i u k (omega arith) (omega (arith, w .2)))
+          (c .before .before .before .if1 .came)),
     )
 
 same-length : tie.Need-same-length Inv-loop μ-loop
@@ -76,7 +198,19 @@ run-of-spec =
     μ-loop
     start-state-requires
     loop-holds
-    tick-of-requires
+    cast-if1
+    after-releases-requires
+    quiet-until-requires
+    runner-with-requires
+    cast-i
+    entry-at-requires
+    mul-before
+    element-copy-out-before
+    after-runner-requires
+    mul-after
+    element-copy-out-after
+    holders-after-requires
+    closed-requires
     slice-write-trace
     add-k
     loop-less
