@@ -77,9 +77,10 @@ module _ (sheet : Sheet) (records : List TaskRecord) where
 
   -- Repeat. The first that may go is the runner. If a candidate comes round again, nobody runs and the runner is 254.
   pub data Walks : (seen : List ℕ) (i : ℕ) → Runner → Type 0 where
-    mayGoes : {seen : List ℕ} {i : ℕ} → among i seen ≡ false → mayGo i ≡ true → Walks seen i (job i)
+    theRunner : {seen : List ℕ} {i : ℕ} → among i seen ≡ false → mayGo i ≡ true → Walks seen i (job i)
     comesRound : {seen : List ℕ} {i : ℕ} → among i seen ≡ true → Walks seen i stuck
-    onward : {seen : List ℕ} {i : ℕ} {x : Runner} → among i seen ≡ false → mayGo i ≡ false → Walks (i ∷ seen) (nextCandidate i) x → Walks seen i x
+    onward : {seen : List ℕ} {i : ℕ} {x : Runner} → among i seen ≡ false → mayGo i ≡ false
+        → Walks (i ∷ seen) (nextCandidate i) x → Walks seen i x
 
   -- The same, computed: `more` is how many ranks can be new, and where none can, this candidate has come round.
   unfoldable pub walk : (more : ℕ) (seen : List ℕ) (i : ℕ) → Runner

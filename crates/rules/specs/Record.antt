@@ -75,11 +75,15 @@ unfoldable pub jobFits : (t : ℕ) → Task → Job → Bool
 jobFits t task j = if j .pending then j .release <? t && standsWell (ahead task j) (j .left) else zeros (place j)
 
 unfoldable pub recordFits : Sheet → (t i : ℕ) → TaskRecord → Bool
-recordFits sheet t i r = countsFit t (r .counts) && jobFits t (taskAt sheet i) (r .job) && (length (sheet .tasks) ≤? i ⇒ zeroRecord r)
+recordFits sheet t i r =
+    countsFit t (r .counts)
+    && jobFits t (taskAt sheet i) (r .job)
+    && (length (sheet .tasks) ≤? i ⇒ zeroRecord r)
 
 -- no semaphore is held by two.
 unfoldable pub noneHeldByTwo : Sheet → List TaskRecord → Bool
-noneHeldByTwo sheet records = every 16 λ s. every 16 λ i. every 16 λ j. holds sheet records i s && holds sheet records j s ⇒ i =? j
+noneHeldByTwo sheet records = every 16 λ s. every 16 λ i. every 16 λ j.
+    holds sheet records i s && holds sheet records j s ⇒ i =? j
 
 -- A state is possible when: t is at most 60,000; every count is at most t, that of switches too; and all of the above.
 unfoldable pub possible : Sheet → State → Bool

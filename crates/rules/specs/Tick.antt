@@ -12,26 +12,35 @@ use Rattle.rules.specs.declared.Counts.{Counts}
 use Rattle.rules.specs.declared.TaskRecord.{TaskRecord}
 use Rattle.rules.specs.declared.State.{State}
 
--- A job that stands at a step.
+-- A job that stands at a step; a record with another job, or with other counts.
 abbrev pub standing : (position left release : ℕ) → Job
 standing position left release = record { pending = true; position = position; left = left; release = release }
 
+abbrev pub withJob : Job → TaskRecord → TaskRecord
+withJob j r = record { job = j; counts = r .counts }
+
+abbrev pub withCounts : Counts → TaskRecord → TaskRecord
+withCounts c r = record { job = r .job; counts = c }
+
 -- Releases, misses, ticks run, ticks blocked rise by one.
+abbrev pub counts : (releases completions misses ran blocked worst : ℕ) → Counts
+counts a b c d e f = record { releases = a; completions = b; misses = c; ran = d; blocked = e; worst = f }
+
 abbrev pub releasesUp : Counts → Counts
-releasesUp c = record { releases = c .releases + 1; completions = c .completions; misses = c .misses; ran = c .ran; blocked = c .blocked; worst = c .worst }
+releasesUp c = counts (c .releases + 1) (c .completions) (c .misses) (c .ran) (c .blocked) (c .worst)
 
 abbrev pub missesUp : Counts → Counts
-missesUp c = record { releases = c .releases; completions = c .completions; misses = c .misses + 1; ran = c .ran; blocked = c .blocked; worst = c .worst }
+missesUp c = counts (c .releases) (c .completions) (c .misses + 1) (c .ran) (c .blocked) (c .worst)
 
 abbrev pub ranUp : Counts → Counts
-ranUp c = record { releases = c .releases; completions = c .completions; misses = c .misses; ran = c .ran + 1; blocked = c .blocked; worst = c .worst }
+ranUp c = counts (c .releases) (c .completions) (c .misses) (c .ran + 1) (c .blocked) (c .worst)
 
 abbrev pub blockedUp : Counts → Counts
-blockedUp c = record { releases = c .releases; completions = c .completions; misses = c .misses; ran = c .ran; blocked = c .blocked + 1; worst = c .worst }
+blockedUp c = counts (c .releases) (c .completions) (c .misses) (c .ran) (c .blocked + 1) (c .worst)
 
 -- Completions rise by one, the worst response is the larger of old and new.
 abbrev pub completionsUp : (response : ℕ) → Counts → Counts
-completionsUp response c = record { releases = c .releases; completions = c .completions + 1; misses = c .misses; ran = c .ran; blocked = c .blocked; worst = max (c .worst) response }
+completionsUp response c = counts (c .releases) (c .completions + 1) (c .misses) (c .ran) (c .blocked) (max (c .worst) response)
 
 -- 1. Task i has a release at t when t is at least its offset and t minus offset is a multiple of the period.
 unfoldable pub releasesAt : (t : ℕ) → Task → Bool
@@ -42,7 +51,7 @@ releasesAt t task = task .offset ≤? t && (t - task .offset) % task .period =? 
 unfoldable pub released : (t : ℕ) → Task → TaskRecord → TaskRecord
 released t task r =
     if not (releasesAt t task) then r else
-    if r .job .pending then record { job = r .job; counts = missesUp (releasesUp (r .counts)) } else
+    if r .job .pending then withCounts (missesUp (releasesUp (r .counts))) r else
     record { job = standing 0 (full (task .steps)) t; counts = releasesUp (r .counts) }
 
 unfoldable pub afterReleases : Sheet → State → List TaskRecord
@@ -69,16 +78,16 @@ unfoldable pub advanced : (t : ℕ) → Task → TaskRecord → TaskRecord
 advanced t task r =
     let j = r .job in
     let next = behindUnlocks task j in
-    if 1 <? leftOfRun task j then record { job = standing (nextRun task j) (leftOfRun task j - 1) (j .release); counts = r .counts } else
-    if next <? length (task .steps) then record { job = standing next (full (drop next (task .steps))) (j .release); counts = r .counts } else
+    if 1 <? leftOfRun task j then withJob (standing (nextRun task j) (leftOfRun task j - 1) (j .release)) r else
+    if next <? length (task .steps) then withJob (standing next (full (drop next (task .steps))) (j .release)) r else
     record { job = noJob; counts = completionsUp (t + 1 - j .release) (r .counts) }
 
 -- 6. Its ticks run rise by one. Each pending job of smaller rank than a running job is blocked for this tick.
 unfoldable pub spent : Runner → (t i : ℕ) → Task → TaskRecord → TaskRecord
 spent (job x) t i task r =
     let ran = advanced t task r in
-    if i =? x then record { job = ran .job; counts = ranUp (ran .counts) } else
-    if i <? x && r .job .pending then record { job = r .job; counts = blockedUp (r .counts) } else r
+    if i =? x then withCounts (ranUp (ran .counts)) ran else
+    if i <? x && r .job .pending then withCounts (blockedUp (r .counts)) r else r
 spent stuck t i task r = r
 spent idle t i task r = r
 
