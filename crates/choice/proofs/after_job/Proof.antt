@@ -2,23 +2,16 @@ use Rattle.choice.proofs.Steps.{job-rests, job-holds}
 use borrow.Author.Needs.{needs}
 use Rattle.choice.proofs.after_job.Statement.{statement}
 use Rattle.choice.proofs.after_job.Tie as tie
-use Rattle.choice.proofs.after_job.Reads as reads
-use Rattle.choice.proofs.after_job.Lts as lts
-use Rattle.choice.proofs.after_steps.Reads as after-steps-reads
 
--- src/lib.rt:78:24
 cast-position : tie.Need-cast-position
 cast-position c = search needs
 
--- src/lib.rt:79:9
 after-steps-requires : tie.Need-after-steps-requires
 after-steps-requires c κs = search needs
 
--- src/lib.rt:79:9
 returns : tie.Need-returns
 returns c = search job-holds
 
--- src/lib.rt:73:1
 returns-2 : tie.Need-returns-2
 returns-2 c = search job-rests
 

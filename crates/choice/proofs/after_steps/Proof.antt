@@ -9,11 +9,6 @@ use Rattle.choice.specs.Holders.{afterSteps}
 use Rattle.choice.proofs.Steps.{after-none, after-one, after-all}
 use Rattle.choice.proofs.after_steps.Statement.{statement}
 use Rattle.choice.proofs.after_steps.Tie as tie
-use Rattle.choice.proofs.after_steps.Reads as reads
-use Rattle.choice.proofs.after_steps.Lts as lts
-use Rattle.choice.proofs.entry_after.Reads as entry-after-reads
-use Rattle.choice.proofs.semaphore_of.Reads as semaphore-of-reads
-use Rattle.table.proofs.step_at.Reads as step-at-reads
 
 abbrev Inv-loop : tie.InvT-loop
 Inv-loop s e from to i out₀ p₀ out p = afterSteps i (take (to - p) (drop p (taskOf s e .steps))) out ≡ afterSteps i (take (to - from) (drop from (taskOf s e .steps))) out₀
@@ -21,43 +16,33 @@ Inv-loop s e from to i out₀ p₀ out p = afterSteps i (take (to - p) (drop p (
 abbrev μ-loop : tie.MeasureT-loop
 μ-loop s e from to i out₀ p₀ out p = to - p
 
--- src/lib.rt:60:5
 loop-holds : tie.Need-loop-holds Inv-loop μ-loop
 loop-holds c = refl
 
--- src/lib.rt:61:13
 step-at-requires : tie.Need-step-at-requires Inv-loop μ-loop
 step-at-requires c κs = search needs
 
--- src/lib.rt:62:13
 semaphore-of-requires : tie.Need-semaphore-of-requires Inv-loop μ-loop
 semaphore-of-requires c κs = search needs
 
--- src/lib.rt:64:21
 array-read-h : tie.Need-array-read-h Inv-loop μ-loop
 array-read-h c = search needs
 
--- src/lib.rt:65:22
 entry-after-requires : tie.Need-entry-after-requires Inv-loop μ-loop
 entry-after-requires c κs = search needs
 
--- src/lib.rt:65:13
 array-write-out : tie.Need-array-write-out Inv-loop μ-loop
 array-write-out c = search needs
 
--- src/lib.rt:67:9
 add-p : tie.Need-add-p Inv-loop μ-loop
 add-p c = omega arith
 
--- src/lib.rt:60:5
 loop-less : tie.Need-loop-less Inv-loop μ-loop
 loop-less c = omega arith
 
--- src/lib.rt:60:5
 loop-again : tie.Need-loop-again Inv-loop μ-loop
 loop-again c = ⊎-elim (λ w. search after-one) (λ w. search after-none) (c .if1 .came)
 
--- src/lib.rt:54:1
 returns : tie.Need-returns Inv-loop μ-loop
 returns c = search after-all
 

@@ -10,10 +10,6 @@ use Rattle.choice.specs.Steps.{lockHere}
 use Rattle.choice.proofs.Steps.{a-lock, scan-whole, scan-end, scan-found, scan-more}
 use Rattle.choice.proofs.any_lock.Statement.{statement}
 use Rattle.choice.proofs.any_lock.Tie as tie
-use Rattle.choice.proofs.any_lock.Reads as reads
-use Rattle.choice.proofs.any_lock.Lts as lts
-use Rattle.choice.proofs.is_lock.Reads as is-lock-reads
-use Rattle.table.proofs.step_at.Reads as step-at-reads
 
 abbrev Inv-loop : tie.InvT-loop
 Inv-loop s e count p₀ p = (p ≤ count) × (any isLock (take (count - p) (drop p (taskOf s e .steps))) ≡ any isLock (taskOf s e .steps))
@@ -21,39 +17,30 @@ Inv-loop s e count p₀ p = (p ≤ count) × (any isLock (take (count - p) (drop
 abbrev μ-loop : tie.MeasureT-loop
 μ-loop s e count p₀ p = count - p
 
--- src/lib.rt:174:17
 cast-count : tie.Need-cast-count Inv-loop μ-loop
 cast-count c = search needs
 
--- src/lib.rt:176:5
 loop-holds : tie.Need-loop-holds Inv-loop μ-loop
 loop-holds c = (omega arith, search scan-whole)
 
--- src/lib.rt:177:13
 step-at-requires : tie.Need-step-at-requires Inv-loop μ-loop
 step-at-requires c κs = search needs
 
--- src/lib.rt:178:12
 is-lock-requires : tie.Need-is-lock-requires Inv-loop μ-loop
 is-lock-requires c κs = search needs
 
--- src/lib.rt:179:13
 returns : tie.Need-returns Inv-loop μ-loop
 returns c = search (scan-found isLock lockHere a-lock)
 
--- src/lib.rt:181:9
 add-p : tie.Need-add-p Inv-loop μ-loop
 add-p c = omega arith
 
--- src/lib.rt:176:5
 loop-less : tie.Need-loop-less Inv-loop μ-loop
 loop-less c = omega arith
 
--- src/lib.rt:176:5
 loop-again : tie.Need-loop-again Inv-loop μ-loop
 loop-again c = (omega arith, search (scan-more isLock lockHere a-lock))
 
--- src/lib.rt:170:1
 returns-2 : tie.Need-returns-2 Inv-loop μ-loop
 returns-2 c = search (scan-end isLock lockHere a-lock)
 

@@ -2,35 +2,25 @@ use Rattle.choice.proofs.Steps.{tick-comes, tick-completes}
 use borrow.Author.Needs.{needs}
 use Rattle.choice.proofs.holders_after.Statement.{statement}
 use Rattle.choice.proofs.holders_after.Tie as tie
-use Rattle.choice.proofs.holders_after.Reads as reads
-use Rattle.choice.proofs.holders_after.Lts as lts
-use Rattle.choice.proofs.after_steps.Reads as after-steps-reads
 
--- src/lib.rt:108:16
 cast-from : tie.Need-cast-from
 cast-from c = search needs
 
--- src/lib.rt:110:18
 cast-to : tie.Need-cast-to
 cast-to c = search needs
 
--- src/lib.rt:111:9
 after-steps-requires : tie.Need-after-steps-requires
 after-steps-requires c κs = search needs
 
--- src/lib.rt:111:9
 returns : tie.Need-returns
 returns c = search tick-comes
 
--- src/lib.rt:113:15
 cast-end : tie.Need-cast-end
 cast-end c = search needs
 
--- src/lib.rt:114:5
 after-steps-requires-2 : tie.Need-after-steps-requires-2
 after-steps-requires-2 c κs = search needs
 
--- src/lib.rt:104:1
 returns-2 : tie.Need-returns-2
 returns-2 c = search tick-completes
 

@@ -10,9 +10,6 @@ use Rattle.choice.specs.Holders.{holderWith}
 use Rattle.choice.proofs.Holders.{ranks-none, ranks-more, ranks-all}
 use Rattle.choice.proofs.holders_of.Statement.{statement}
 use Rattle.choice.proofs.holders_of.Tie as tie
-use Rattle.choice.proofs.holders_of.Reads as reads
-use Rattle.choice.proofs.holders_of.Lts as lts
-use Rattle.choice.proofs.after_job.Reads as after-job-reads
 
 abbrev Inv-loop : tie.InvT-loop
 Inv-loop s table st n hs₀ i₀ hs i = (i ≤ n) × (hs ≡ row 16 (holderWith (sheetOf s table) (st .tasks) i []))
@@ -20,51 +17,39 @@ Inv-loop s table st n hs₀ i₀ hs i = (i ≤ n) × (hs ≡ row 16 (holderWith 
 abbrev μ-loop : tie.MeasureT-loop
 μ-loop s table st n hs₀ i₀ hs i = n - i
 
--- src/lib.rt:84:13
 cast-n : tie.Need-cast-n Inv-loop μ-loop
 cast-n c = search needs
 
--- src/lib.rt:87:5
 loop-holds : tie.Need-loop-holds Inv-loop μ-loop
 loop-holds c = (omega arith, search ranks-none)
 
--- src/lib.rt:88:17
 mul-e : tie.Need-mul-e Inv-loop μ-loop
 mul-e c = omega arith
 
--- src/lib.rt:88:17
 element-copy-out-e : tie.Need-element-copy-out-e Inv-loop μ-loop
 element-copy-out-e c = search needs
 
--- src/lib.rt:89:17
 mul-r : tie.Need-mul-r Inv-loop μ-loop
 mul-r c = omega arith
 
--- src/lib.rt:89:17
 element-copy-out-r : tie.Need-element-copy-out-r Inv-loop μ-loop
 element-copy-out-r c = search needs
 
--- src/lib.rt:91:39
 cast-after-job : tie.Need-cast-after-job Inv-loop μ-loop
 cast-after-job c = omega arith
 
--- src/lib.rt:91:13
 after-job-requires : tie.Need-after-job-requires Inv-loop μ-loop
 after-job-requires c κs = search (lies-from, entry-in)
 
--- src/lib.rt:93:9
 add-i : tie.Need-add-i Inv-loop μ-loop
 add-i c = omega arith
 
--- src/lib.rt:87:5
 loop-less : tie.Need-loop-less Inv-loop μ-loop
 loop-less c = omega arith
 
--- src/lib.rt:87:5
 loop-again : tie.Need-loop-again Inv-loop μ-loop
 loop-again c = (omega arith, search ranks-more)
 
--- src/lib.rt:80:1
 returns : tie.Need-returns Inv-loop μ-loop
 returns c = search ranks-all
 

@@ -7,8 +7,6 @@ use Rattle.rules.specs.Record.{recordAt}
 use Rattle.choice.proofs.Walks.{top-here, top-none, top-more}
 use Rattle.choice.proofs.top_job.Statement.{statement}
 use Rattle.choice.proofs.top_job.Tie as tie
-use Rattle.choice.proofs.top_job.Reads as reads
-use Rattle.choice.proofs.top_job.Lts as lts
 
 abbrev Inv-loop : tie.InvT-loop
 Inv-loop n st i₀ i = (i ≤ n) × ((k : ℕ) → k < i → recordAt (st .tasks) k .job .pending ≡ false)
@@ -16,39 +14,30 @@ Inv-loop n st i₀ i = (i ≤ n) × ((k : ℕ) → k < i → recordAt (st .tasks
 abbrev μ-loop : tie.MeasureT-loop
 μ-loop n st i₀ i = n - i
 
--- src/lib.rt:213:5
 loop-holds : tie.Need-loop-holds Inv-loop μ-loop
 loop-holds c = (omega arith, λ k l. absurd (omega arith))
 
--- src/lib.rt:214:17
 mul-r : tie.Need-mul-r Inv-loop μ-loop
 mul-r c = omega arith
 
--- src/lib.rt:214:17
 element-copy-out-r : tie.Need-element-copy-out-r Inv-loop μ-loop
 element-copy-out-r c = search needs
 
--- src/lib.rt:217:20
 cast-result : tie.Need-cast-result Inv-loop μ-loop
 cast-result c = omega arith
 
--- src/lib.rt:217:13
 returns : tie.Need-returns Inv-loop μ-loop
 returns c = search top-here
 
--- src/lib.rt:219:9
 add-i : tie.Need-add-i Inv-loop μ-loop
 add-i c = omega arith
 
--- src/lib.rt:213:5
 loop-less : tie.Need-loop-less Inv-loop μ-loop
 loop-less c = omega arith
 
--- src/lib.rt:213:5
 loop-again : tie.Need-loop-again Inv-loop μ-loop
 loop-again c = (omega arith, search top-more)
 
--- src/lib.rt:207:1
 returns-2 : tie.Need-returns-2 Inv-loop μ-loop
 returns-2 c = search top-none
 

@@ -6,9 +6,6 @@ use Rattle.choice.specs.Way.{nearest}
 use Rattle.choice.proofs.Ways.{nearest-more, nearest-all}
 use Rattle.choice.proofs.way_of.Statement.{statement}
 use Rattle.choice.proofs.way_of.Tie as tie
-use Rattle.choice.proofs.way_of.Reads as reads
-use Rattle.choice.proofs.way_of.Lts as lts
-use Rattle.choice.proofs.nearer_of.Reads as nearer-of-reads
 
 abbrev Inv-loop : tie.InvT-loop
 Inv-loop i m cs hs w₀ k₀ w k = (k ≤ m) × (w ≡ nearest i cs hs k)
@@ -16,36 +13,28 @@ Inv-loop i m cs hs w₀ k₀ w k = (k ≤ m) × (w ≡ nearest i cs hs k)
 abbrev μ-loop : tie.MeasureT-loop
 μ-loop i m cs hs w₀ k₀ w k = m - k
 
--- src/lib.rt:126:5
 loop-holds : tie.Need-loop-holds Inv-loop μ-loop
 unfolding nearest
 loop-holds c = (omega arith, refl)
 
--- src/lib.rt:127:26
 array-read-nearer-of : tie.Need-array-read-nearer-of Inv-loop μ-loop
 array-read-nearer-of c = search needs
 
--- src/lib.rt:127:33
 array-read-nearer-of-2 : tie.Need-array-read-nearer-of-2 Inv-loop μ-loop
 array-read-nearer-of-2 c = search needs
 
--- src/lib.rt:127:9
 nearer-of-requires : tie.Need-nearer-of-requires Inv-loop μ-loop
 nearer-of-requires c κs = search needs
 
--- src/lib.rt:128:9
 add-k : tie.Need-add-k Inv-loop μ-loop
 add-k c = omega arith
 
--- src/lib.rt:126:5
 loop-less : tie.Need-loop-less Inv-loop μ-loop
 loop-less c = omega arith
 
--- src/lib.rt:126:5
 loop-again : tie.Need-loop-again Inv-loop μ-loop
 loop-again c = (omega arith, search nearest-more)
 
--- src/lib.rt:117:1
 returns : tie.Need-returns Inv-loop μ-loop
 returns c = search nearest-all
 

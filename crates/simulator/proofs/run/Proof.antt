@@ -4,65 +4,47 @@ use Rattle.simulator.proofs.Ticks.{run-away, run-far, run-short, run-ma
 use borrow.Author.Needs.{needs}
 use Rattle.simulator.proofs.run.Statement.{statement}
 use Rattle.simulator.proofs.run.Tie as tie
-use Rattle.simulator.proofs.run.Reads as reads
-use Rattle.simulator.proofs.run.Lts as lts
-use Rattle.engine.proofs.run_of.Reads as run-of-reads
-use Rattle.sheet.proofs.ceilings_of.Reads as ceilings-of-reads
-use Rattle.sheet.proofs.read_sheet.Reads as read-sheet-reads
-use Rattle.simulator.proofs.not_run.Reads as not-run-reads
-use Rattle.simulator.proofs.refusal_of.Reads as refusal-of-reads
 
--- src/lib.rt:203:9
 read-sheet-requires : tie.Need-read-sheet-requires
 read-sheet-requires c κs = search needs
 
--- src/lib.rt:206:9
 not-run-requires : tie.Need-not-run-requires
 not-run-requires c κs = search needs
 
--- src/lib.rt:206:9
 returns : tie.Need-returns
 returns c =
     let r = run-away _ _ _ _ (c .before .before .before .before .read-sheet .ensures) (c .before .if1 .taken) in
     (c .not-run .ensures ∙ r .0, r .1)
 
--- src/lib.rt:209:24
 refusal-of-requires : tie.Need-refusal-of-requires
 refusal-of-requires c κs = search needs
 
--- src/lib.rt:209:9
 not-run-requires-2 : tie.Need-not-run-requires-2
 not-run-requires-2 c κs = search needs
 
--- src/lib.rt:209:9
 returns-2 : tie.Need-returns-2
 returns-2 c =
     let e = c .before .before .before in
     let r = run-far _ _ _ _ (e .before .before .before .read-sheet .ensures) (e .if1 .left) (c .before .before .if2 .taken) in
     (c .not-run2 .ensures ∙ ap notRun (c .before .refusal-of .ensures) ∙ r .0, r .1)
 
--- src/lib.rt:213:24
 refusal-of-requires-2 : tie.Need-refusal-of-requires-2
 refusal-of-requires-2 c κs = search needs
 
--- src/lib.rt:213:9
 not-run-requires-3 : tie.Need-not-run-requires-3
 not-run-requires-3 c κs = search needs
 
--- src/lib.rt:213:9
 returns-3 : tie.Need-returns-3
 returns-3 c =
     let e = c .before .before .before .before in
     let r = run-short _ _ _ _ (e .before .before .before .read-sheet .ensures) (e .if1 .left) (c .before .before .before .if2 .left) (c .before .before .if3 .taken) in
     (c .not-run3 .ensures ∙ ap notRun (c .before .refusal-of2 .ensures) ∙ r .0, r .1)
 
--- src/lib.rt:216:9
 ceilings-of-requires : tie.Need-ceilings-of-requires
 ceilings-of-requires c κs =
     let e = c .before .before .before in
     e .before .before .before .read-sheet .ensures .tabled (e .if1 .left)
 
--- src/lib.rt:217:9
 run-of-requires : tie.Need-run-of-requires
 run-of-requires c κs =
     let b = c .before .before .before in
@@ -71,11 +53,9 @@ run-of-requires c κs =
       (c .before .ceilings-of .ensures, (b .before .if2 .left, b .if3 .left)),
     )
 
--- src/lib.rt:199:1
 same-length : tie.Need-same-length
 same-length c = search needs
 
--- src/lib.rt:199:1
 returns-4 : tie.Need-returns-4
 returns-4 c =
     let b = c .before .before .before .before .before .before in

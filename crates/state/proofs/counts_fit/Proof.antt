@@ -2,30 +2,22 @@ use native.Mathlib.Omega.{arith}
 use Rattle.state.proofs.Fits.{too-many, few-counts}
 use Rattle.state.proofs.counts_fit.Statement.{statement}
 use Rattle.state.proofs.counts_fit.Tie as tie
-use Rattle.state.proofs.counts_fit.Reads as reads
-use Rattle.state.proofs.counts_fit.Lts as lts
 
--- src/lib.rt:25:9
 returns : tie.Need-returns
 returns c = too-many (λ f. f .releases) (omega arith)
 
--- src/lib.rt:28:9
 returns-2 : tie.Need-returns-2
 returns-2 c = too-many (λ f. f .completions) (omega arith)
 
--- src/lib.rt:31:9
 returns-3 : tie.Need-returns-3
 returns-3 c = too-many (λ f. f .misses) (omega arith)
 
--- src/lib.rt:34:9
 returns-4 : tie.Need-returns-4
 returns-4 c = too-many (λ f. f .ran) (omega arith)
 
--- src/lib.rt:37:9
 returns-5 : tie.Need-returns-5
 returns-5 c = too-many (λ f. f .blocked) (omega arith)
 
--- src/lib.rt:21:1
 returns-6 : tie.Need-returns-6
 returns-6 c = search few-counts
 

@@ -2,14 +2,10 @@ use native.Mathlib.Omega.{arith}
 use Rattle.state.proofs.Fits.{none-left, some-left}
 use Rattle.state.proofs.from_one_to.Statement.{statement}
 use Rattle.state.proofs.from_one_to.Tie as tie
-use Rattle.state.proofs.from_one_to.Reads as reads
-use Rattle.state.proofs.from_one_to.Lts as lts
 
--- src/lib.rt:88:9
 returns : tie.Need-returns
 returns c = none-left _ _ (omega arith)
 
--- src/lib.rt:84:1
 returns-2 : tie.Need-returns-2
 returns-2 c = some-left _ _ (omega arith)
 

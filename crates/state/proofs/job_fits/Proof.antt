@@ -3,32 +3,22 @@ use Rattle.state.proofs.Fits.{job-rests, job-late, job-stands}
 use borrow.Author.Needs.{needs}
 use Rattle.state.proofs.job_fits.Statement.{statement}
 use Rattle.state.proofs.job_fits.Tie as tie
-use Rattle.state.proofs.job_fits.Reads as reads
-use Rattle.state.proofs.job_fits.Lts as lts
-use Rattle.state.proofs.stands_well.Reads as stands-well-reads
-use Rattle.state.proofs.zero_place.Reads as zero-place-reads
 
--- src/lib.rt:113:9
 zero-place-requires : tie.Need-zero-place-requires
 zero-place-requires c κs = search needs
 
--- src/lib.rt:113:9
 returns : tie.Need-returns
 returns c = search job-rests
 
--- src/lib.rt:116:9
 returns-2 : tie.Need-returns-2
 returns-2 c = job-late _ _ _ (c .before .before .if1 .left) (omega arith)
 
--- src/lib.rt:118:20
 cast-position : tie.Need-cast-position
 cast-position c = search needs
 
--- src/lib.rt:119:5
 stands-well-requires : tie.Need-stands-well-requires
 stands-well-requires c κs = search needs
 
--- src/lib.rt:108:1
 returns-3 : tie.Need-returns-3
 returns-3 c = search job-stands
 

@@ -3,41 +3,28 @@ use Rattle.state.proofs.Fits.{late, many-switches, runner-off, records-
 use borrow.Author.Needs.{needs}
 use Rattle.state.proofs.possible_state.Statement.{statement}
 use Rattle.state.proofs.possible_state.Tie as tie
-use Rattle.state.proofs.possible_state.Reads as reads
-use Rattle.state.proofs.possible_state.Lts as lts
-use Rattle.state.proofs.none_held_by_two.Reads as none-held-by-two-reads
-use Rattle.state.proofs.records_fit.Reads as records-fit-reads
-use Rattle.state.proofs.runner_fits.Reads as runner-fits-reads
 
--- src/lib.rt:260:9
 returns : tie.Need-returns
 returns c = late _ _ _ (omega arith)
 
--- src/lib.rt:263:9
 returns-2 : tie.Need-returns-2
 returns-2 c = search many-switches
 
--- src/lib.rt:265:9
 runner-fits-requires : tie.Need-runner-fits-requires
 runner-fits-requires c κs = search needs
 
--- src/lib.rt:266:9
 returns-3 : tie.Need-returns-3
 returns-3 c = search runner-off
 
--- src/lib.rt:268:9
 records-fit-requires : tie.Need-records-fit-requires
 records-fit-requires c κs = search needs
 
--- src/lib.rt:269:9
 returns-4 : tie.Need-returns-4
 returns-4 c = search records-off
 
--- src/lib.rt:271:5
 none-held-by-two-requires : tie.Need-none-held-by-two-requires
 none-held-by-two-requires c κs = search needs
 
--- src/lib.rt:254:1
 returns-5 : tie.Need-returns-5
 returns-5 c = search else-single
 

@@ -8,9 +8,6 @@ use Rattle.state.proofs.Fits.{record-off, record-more, records-all}
 use borrow.Author.Needs.{needs}
 use Rattle.state.proofs.records_fit.Statement.{statement}
 use Rattle.state.proofs.records_fit.Tie as tie
-use Rattle.state.proofs.records_fit.Reads as reads
-use Rattle.state.proofs.records_fit.Lts as lts
-use Rattle.state.proofs.record_fits.Reads as record-fits-reads
 
 abbrev Inv-loop : tie.InvT-loop
 Inv-loop s table st t i₀ i = (i ≤ 16) × ((k : ℕ) → k < i → recordFits (sheetOf s table) (st .t) k (recordAt (st .tasks) k) ≡ true)
@@ -18,39 +15,30 @@ Inv-loop s table st t i₀ i = (i ≤ 16) × ((k : ℕ) → k < i → recordFits
 abbrev μ-loop : tie.MeasureT-loop
 μ-loop s table st t i₀ i = 16 - i
 
--- src/lib.rt:147:5
 loop-holds : tie.Need-loop-holds Inv-loop μ-loop
 loop-holds c = (omega arith, λ k l. absurd (omega arith))
 
--- src/lib.rt:148:17
 mul-x : tie.Need-mul-x Inv-loop μ-loop
 mul-x c = search needs
 
--- src/lib.rt:148:17
 element-copy-out-x : tie.Need-element-copy-out-x Inv-loop μ-loop
 element-copy-out-x c = search needs
 
--- src/lib.rt:149:13
 record-fits-requires : tie.Need-record-fits-requires Inv-loop μ-loop
 record-fits-requires c κs = search needs
 
--- src/lib.rt:150:13
 returns : tie.Need-returns Inv-loop μ-loop
 returns c = search record-off
 
--- src/lib.rt:152:9
 add-i : tie.Need-add-i Inv-loop μ-loop
 add-i c = omega arith
 
--- src/lib.rt:147:5
 loop-less : tie.Need-loop-less Inv-loop μ-loop
 loop-less c = omega arith
 
--- src/lib.rt:147:5
 loop-again : tie.Need-loop-again Inv-loop μ-loop
 loop-again c = (omega arith, search record-more)
 
--- src/lib.rt:141:1
 returns-2 : tie.Need-returns-2 Inv-loop μ-loop
 returns-2 c = search records-all
 

@@ -1,14 +1,10 @@
 use Rattle.state.proofs.Holding.{holder-none, holder-one}
 use Rattle.state.proofs.same_holder.Statement.{statement}
 use Rattle.state.proofs.same_holder.Tie as tie
-use Rattle.state.proofs.same_holder.Reads as reads
-use Rattle.state.proofs.same_holder.Lts as lts
 
--- src/lib.rt:164:9
 returns : tie.Need-returns
 returns c = search holder-none
 
--- src/lib.rt:160:1
 returns-2 : tie.Need-returns-2
 returns-2 c = search holder-one
 

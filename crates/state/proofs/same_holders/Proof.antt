@@ -8,9 +8,6 @@ use Rattle.state.proofs.Holding.{holder-off, holder-more, holders-all}
 use borrow.Author.Needs.{needs}
 use Rattle.state.proofs.same_holders.Statement.{statement}
 use Rattle.state.proofs.same_holders.Tie as tie
-use Rattle.state.proofs.same_holders.Reads as reads
-use Rattle.state.proofs.same_holders.Lts as lts
-use Rattle.state.proofs.same_holder.Reads as same-holder-reads
 
 abbrev Inv-loop : tie.InvT-loop
 Inv-loop own hs k₀ k = (k ≤ 16) × ((s : ℕ) → s < k → sameHolder (getD own s 0) (getD hs s 0) ≡ true)
@@ -18,39 +15,30 @@ Inv-loop own hs k₀ k = (k ≤ 16) × ((s : ℕ) → s < k → sameHolder (getD
 abbrev μ-loop : tie.MeasureT-loop
 μ-loop own hs k₀ k = 16 - k
 
--- src/lib.rt:174:5
 loop-holds : tie.Need-loop-holds Inv-loop μ-loop
 loop-holds c = (omega arith, λ s l. absurd (omega arith))
 
--- src/lib.rt:175:25
 array-read-same-holder : tie.Need-array-read-same-holder Inv-loop μ-loop
 array-read-same-holder c = search needs
 
--- src/lib.rt:175:33
 array-read-same-holder-2 : tie.Need-array-read-same-holder-2 Inv-loop μ-loop
 array-read-same-holder-2 c = search needs
 
--- src/lib.rt:175:13
 same-holder-requires : tie.Need-same-holder-requires Inv-loop μ-loop
 same-holder-requires c κs = search needs
 
--- src/lib.rt:176:13
 returns : tie.Need-returns Inv-loop μ-loop
 returns c = search holder-off
 
--- src/lib.rt:178:9
 add-k : tie.Need-add-k Inv-loop μ-loop
 add-k c = omega arith
 
--- src/lib.rt:174:5
 loop-less : tie.Need-loop-less Inv-loop μ-loop
 loop-less c = omega arith
 
--- src/lib.rt:174:5
 loop-again : tie.Need-loop-again Inv-loop μ-loop
 loop-again c = (omega arith, search holder-more)
 
--- src/lib.rt:170:1
 returns-2 : tie.Need-returns-2 Inv-loop μ-loop
 returns-2 c = search holders-all
 

@@ -1,18 +1,13 @@
 use Rattle.state.proofs.Fits.{placed, ticks-left, else-released}
 use Rattle.state.proofs.zero_place.Statement.{statement}
 use Rattle.state.proofs.zero_place.Tie as tie
-use Rattle.state.proofs.zero_place.Reads as reads
-use Rattle.state.proofs.zero_place.Lts as lts
 
--- src/lib.rt:60:9
 returns : tie.Need-returns
 returns c = search placed
 
--- src/lib.rt:63:9
 returns-2 : tie.Need-returns-2
 returns-2 c = search ticks-left
 
--- src/lib.rt:56:1
 returns-3 : tie.Need-returns-3
 returns-3 c = search else-released
 

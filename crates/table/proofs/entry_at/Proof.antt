@@ -2,26 +2,19 @@ use Rattle.table.proofs.Laws.{entry-in, entry-out}
 use borrow.Author.Needs.{needs}
 use Rattle.table.proofs.entry_at.Statement.{statement}
 use Rattle.table.proofs.entry_at.Tie as tie
-use Rattle.table.proofs.entry_at.Reads as reads
-use Rattle.table.proofs.entry_at.Lts as lts
 
--- src/lib.rt:45:13
 cast-n : tie.Need-cast-n
 cast-n c = search needs
 
--- src/lib.rt:47:16
 mul-result : tie.Need-mul-result
 mul-result c = search needs
 
--- src/lib.rt:47:16
 element-copy-out-result : tie.Need-element-copy-out-result
 element-copy-out-result c = search needs
 
--- src/lib.rt:47:9
 returns : tie.Need-returns
 returns c = search entry-in
 
--- src/lib.rt:41:1
 returns-2 : tie.Need-returns-2
 returns-2 c = search entry-out
 

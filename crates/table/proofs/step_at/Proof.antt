@@ -5,53 +5,39 @@ use Rattle.table.proofs.Laws.{past-end, run-here, lock-here, unlock-her
 use borrow.Author.Needs.{needs}
 use Rattle.table.proofs.step_at.Statement.{statement}
 use Rattle.table.proofs.step_at.Tie as tie
-use Rattle.table.proofs.step_at.Reads as reads
-use Rattle.table.proofs.step_at.Lts as lts
-use Rattle.table.proofs.word_at.Reads as word-at-reads
 
--- src/lib.rt:62:17
 cast-count : tie.Need-cast-count
 cast-count c = search needs
 
--- src/lib.rt:64:9
 returns : tie.Need-returns
 returns c = search past-end
 
--- src/lib.rt:66:15
 cast-at : tie.Need-cast-at
 cast-at c = search needs
 
--- src/lib.rt:66:32
 mul-at : tie.Need-mul-at
 mul-at c = search needs
 
--- src/lib.rt:66:14
 add-at : tie.Need-add-at
 add-at c = search needs
 
--- src/lib.rt:67:28
 add-word-at : tie.Need-add-word-at
 add-word-at c = search needs
 
--- src/lib.rt:67:9
 word-at-requires : tie.Need-word-at-requires
 word-at-requires c κs = search needs
 
--- src/lib.rt:68:16
 shared-slice-read-kind : tie.Need-shared-slice-read-kind
 shared-slice-read-kind c = search needs
 
--- src/lib.rt:70:9
 returns-2 : tie.Need-returns-2
 unfolding byte
 returns-2 c = search run-here
 
--- src/lib.rt:73:9
 returns-3 : tie.Need-returns-3
 unfolding byte
 returns-3 c = search lock-here
 
--- src/lib.rt:58:1
 returns-4 : tie.Need-returns-4
 unfolding byte
 returns-4 c =
