@@ -133,7 +133,7 @@ pub fn tick(s: &[u8], st: State) -> Ticked
         return not_ticked(refusal, st);
     }
     let table = p.table;
-    if !state::possible_state(s, table, st) {
+    if !possible::possible_state(s, table, st) {
         return not_ticked(refusal_of(16), st);
     }
     if st.t == 60000 {

@@ -1,0 +1,225 @@
+-- Laws of the tests on one record, each in the words of document 01's sentence.
+use Prim.Native.Nat.{ℕ, _+_, _≤_, _<_}
+use mathlib.Core.Path.{_≡_, refl, sym, ap, ap₂, _∙_}
+use mathlib.Core.Logic.{⊎-elim}
+use mathlib.Core.List.{List, [], _∷_}
+use mathlib.Core.Bool.{Bool, true, false, not, _&&_}
+use native.Mathlib.Omega.{arith}
+use lib.ListN.{getD, drop}
+use borrow.Author.Tests.{lt-ltb, le-ltb, le-leb, lt-leb, eq-eqb, ne-eqb, not-true, not-false, leb-true, leb-false}
+use Rattle.rules.specs.Words.{_≤?_, _=?_, _⇒_, within, all}
+use Rattle.rules.specs.Sheet.{Step, run, lock, unlock, Task, Sheet}
+use Rattle.rules.specs.Record.{blank, recordAt, ahead, place, counted, zeros, countsFit, runnerFits, zeroRecord, standsWell, jobFits, recordFits, noneHeldByTwo, possible}
+use Rattle.rules.specs.declared.Job.{Job}
+use Rattle.rules.specs.declared.Counts.{Counts}
+use Rattle.rules.specs.declared.TaskRecord.{TaskRecord}
+use Rattle.rules.specs.declared.State.{State}
+use Rattle.rules.proofs.Laws.{sure, and-at, every-of, every-no, and-true}
+use Rattle.rules.proofs.Possible.{CountsFit, counts-fit}
+use Rattle.table.specs.Table.{here, taskOf, entryOf, sheetOf}
+use Rattle.table.specs.declared.Entry.{Entry}
+use Rattle.table.specs.declared.Table.{Table}
+use Rattle.table.specs.declared.Here.{Here}
+use Rattle.table.proofs.Laws.{task-at, tasks-count}
+use Rattle.possible.specs.Records.{recordsFit}
+
+-- one count above t is too many
+pub too-many : {t : ℕ} {c : Counts} {x : ℕ} → (CountsFit t c → x ≤ t) → t < x → false ≡ countsFit t c
+too-many {t} {c} {x} bounded l = ⊎-elim
+    (λ e. absurd (omega (arith, bounded (counts-fit t c e))))
+    sym
+    (sure (countsFit t c))
+
+-- where the others are at most t, the last decides
+pub few-counts : (t : ℕ) (c : Counts) → c .releases ≤ t → c .completions ≤ t → c .misses ≤ t → c .ran ≤ t → c .blocked ≤ t → (c .worst ≤? t) ≡ countsFit t c
+unfolding countsFit counted all
+few-counts t c e1 e2 e3 e4 e5 =
+    rw (le-leb _ _ e1, le-leb _ _ e2, le-leb _ _ e3, le-leb _ _ e4, le-leb _ _ e5) (sym (and-true (c .worst ≤? t)))
+
+-- the last runner
+module _ (n x : ℕ) where
+  pub rank-fits : x < n → true ≡ runnerFits n x
+  unfolding runnerFits
+  rank-fits l = rw (lt-ltb x n l) refl
+
+  module _ (l : n ≤ x) where
+    pub stuck-fits : x ≡ 254 → true ≡ runnerFits n x
+    unfolding runnerFits
+    stuck-fits e = rw (le-ltb x n l, eq-eqb x 254 e) refl
+
+    pub else-idle : (x ≡ 254 → ⊥) → (x =? 255) ≡ runnerFits n x
+    unfolding runnerFits
+    else-idle e = rw (le-ltb x n l, ne-eqb x 254 e) refl
+
+-- position, left and release tick zero
+module _ (j : Job) where
+  pub placed : (j .position ≡ 0 → ⊥) → false ≡ zeros (place j)
+  unfolding zeros place all
+  placed n = rw (ne-eqb (j .position) 0 n) refl
+
+  module _ (p : j .position ≡ 0) where
+    pub ticks-left : (j .left ≡ 0 → ⊥) → false ≡ zeros (place j)
+    unfolding zeros place all
+    ticks-left n = rw (eq-eqb (j .position) 0 p, ne-eqb (j .left) 0 n) refl
+
+    pub else-released : j .left ≡ 0 → (j .release =? 0) ≡ zeros (place j)
+    unfolding zeros place all
+    else-released e = rw (eq-eqb (j .position) 0 p, eq-eqb (j .left) 0 e) (sym (and-true (j .release =? 0)))
+
+-- a count that is at most 0 is zero
+all-same : {A : Type 0} (p q : A → Bool) → ((x : A) → p x ≡ q x) → (xs : List A) → all p xs ≡ all q xs
+unfolding all
+all-same p q h [] = refl
+all-same p q h (x ∷ xs) = ap₂ _&&_ (h x) (all-same p q h xs)
+
+at-most-0 : (x : ℕ) → (x ≤? 0) ≡ (x =? 0)
+at-most-0 x = ⊎-elim
+    (λ e. let l = leb-true x 0 e in rw (e, eq-eqb x 0 (omega arith)) refl)
+    (λ e. let l = leb-false x 0 e in rw (e, ne-eqb x 0 (λ z. omega arith)) refl)
+    (sure (x ≤? 0))
+
+-- a zero record
+module _ (x : TaskRecord) where
+  pub pending-not-zero : x .job .pending ≡ true → false ≡ zeroRecord x
+  unfolding zeroRecord
+  pending-not-zero e = rw e refl
+
+  module _ (e : x .job .pending ≡ false) (a : Bool) (ea : a ≡ zeros (place (x .job))) where
+    pub place-not-zero : not a ≡ true → false ≡ zeroRecord x
+    unfolding zeroRecord zeros place all
+    place-not-zero h = rw (e, ← ea, not-true a h) refl
+
+    pub else-counts : not a ≡ false → (b : Bool) → b ≡ countsFit 0 (x .counts) → b ≡ zeroRecord x
+    unfolding zeroRecord countsFit zeros place all
+    else-counts h b eb = rw (e, ← ea, not-false a h) (eb ∙ all-same (λ x. x ≤? 0) (λ x. x =? 0) at-most-0 (counted (x .counts)))
+
+-- 1 to its full length
+module _ (full left : ℕ) where
+  pub none-left : left < 1 → false ≡ within 1 full left
+  unfolding within
+  none-left l = rw (lt-leb 1 left l) refl
+
+  pub some-left : 1 ≤ left → (left ≤? full) ≡ within 1 full left
+  unfolding within
+  some-left l = rw (le-leb 1 left l) refl
+
+-- how a job stands is said by the first of the steps ahead
+standsAt : Here → (left : ℕ) → Bool
+standsAt (Here.Run n) left = within 1 n left
+standsAt (Here.Lock s) left = left =? 0
+standsAt (Here.Unlock s) left = false
+standsAt Here.End left = false
+
+stands-here : (steps : List Step) (left : ℕ) → standsAt (here steps) left ≡ standsWell steps left
+unfolding here standsWell standsAt
+stands-here [] left = refl
+stands-here (run n ∷ steps) left = refl
+stands-here (lock s ∷ steps) left = refl
+stands-here (unlock s ∷ steps) left = refl
+
+module _ (steps : List Step) (left : ℕ) (x : Here) (e : x ≡ here steps) where
+  stands : standsAt x left ≡ standsWell steps left
+  stands = ap (λ (x : Here). standsAt x left) e ∙ stands-here steps left
+
+  pub stands-run : (n : ℕ) → x ≡ Here.Run n → (b : Bool) → b ≡ within 1 n left → b ≡ standsWell steps left
+  unfolding standsAt
+  stands-run n u b eb = eb ∙ sym (ap (λ (x : Here). standsAt x left) u) ∙ stands
+
+  pub stands-lock : (s : ℕ) → x ≡ Here.Lock s → (left =? 0) ≡ standsWell steps left
+  unfolding standsAt
+  stands-lock s u = sym (ap (λ (x : Here). standsAt x left) u) ∙ stands
+
+  pub stands-unlock : (s : ℕ) → x ≡ Here.Unlock s → false ≡ standsWell steps left
+  unfolding standsAt
+  stands-unlock s u = sym (ap (λ (x : Here). standsAt x left) u) ∙ stands
+
+  pub stands-end : x ≡ Here.End → false ≡ standsWell steps left
+  unfolding standsAt
+  stands-end u = sym (ap (λ (x : Here). standsAt x left) u) ∙ stands
+
+-- the job
+module _ (t : ℕ) (task : Task) (j : Job) where
+  pub job-rests : not (j .pending) ≡ true → (b : Bool) → b ≡ zeros (place j) → b ≡ jobFits t task j
+  unfolding jobFits place
+  job-rests h b eb = rw (not-true (j .pending) h) eb
+
+  module _ (p : not (j .pending) ≡ false) where
+    pub job-late : t ≤ j .release → false ≡ jobFits t task j
+    unfolding jobFits
+    job-late l = rw (not-false (j .pending) p, le-ltb (j .release) t l) refl
+
+    pub job-stands : j .release < t → (b : Bool) → b ≡ standsWell (drop (j .position) (task .steps)) (j .left) → b ≡ jobFits t task j
+    unfolding jobFits ahead
+    job-stands l b eb = rw (not-false (j .pending) p, lt-ltb (j .release) t l) eb
+
+-- the record of a rank
+module _ (bytes : List ℕ) (table : Table) (t i : ℕ) (x : TaskRecord) where
+  record-by : (e : Entry) → e ≡ entryOf table i
+      → recordFits (sheetOf bytes table) t i x ≡ (countsFit t (x .counts) && jobFits t (taskOf bytes e) (x .job) && (table .n ≤? i ⇒ zeroRecord x))
+  unfolding recordFits
+  record-by e u = ap₂ (λ (task : Task) (n : ℕ). countsFit t (x .counts) && jobFits t task (x .job) && (n ≤? i ⇒ zeroRecord x))
+      (task-at bytes table i ∙ ap (taskOf bytes) (sym u)) (tasks-count bytes table)
+
+  module _ (a : Bool) (ea : a ≡ countsFit t (x .counts)) where
+    pub counts-off : not a ≡ true → false ≡ recordFits (sheetOf bytes table) t i x
+    unfolding recordFits
+    counts-off h = rw (← ea, not-true a h) refl
+
+    module _ (h : not a ≡ false) (e : Entry) (u : e ≡ entryOf table i) (b : Bool) (eb : b ≡ jobFits t (taskOf bytes e) (x .job)) where
+      record-past : recordFits (sheetOf bytes table) t i x ≡ (b && (table .n ≤? i ⇒ zeroRecord x))
+      record-past = record-by e u ∙ rw (← ea, ← eb, not-false a h) refl
+
+      pub job-off : not b ≡ true → false ≡ recordFits (sheetOf bytes table) t i x
+      job-off k = sym (record-past ∙ rw (not-true b k) refl)
+
+      module _ (k : not b ≡ false) where
+        pub inside-fits : i < table .n → true ≡ recordFits (sheetOf bytes table) t i x
+        inside-fits l = sym (record-past ∙ rw (not-false b k, lt-leb (table .n) i l) refl)
+
+        pub past-zero : table .n ≤ i → (z : Bool) → z ≡ zeroRecord x → z ≡ recordFits (sheetOf bytes table) t i x
+        past-zero l z ez = sym (record-past ∙ rw (not-false b k, le-leb (table .n) i l) (sym ez))
+
+-- the sixteen records, found by looking from 0 on
+module _ (sheet : Sheet) (st : State) (i : ℕ) where
+  module _ (a : Bool) (ea : a ≡ recordFits sheet (st .t) i (getD (st .tasks) i blank)) where
+    pub record-off : i < 16 → not a ≡ true → false ≡ recordsFit sheet st
+    unfolding recordsFit recordAt
+    record-off l h = sym (every-no 16 (λ i. recordFits sheet (st .t) i (recordAt (st .tasks) i)) i l (sym ea ∙ not-true a h))
+
+    pub record-more : not a ≡ false → ((k : ℕ) → k < i → recordFits sheet (st .t) k (recordAt (st .tasks) k) ≡ true)
+        → (k : ℕ) → k < i + 1 → recordFits sheet (st .t) k (recordAt (st .tasks) k) ≡ true
+    unfolding recordAt
+    record-more h inv k l = and-at (λ k. recordFits sheet (st .t) k (recordAt (st .tasks) k) ≡ true) i inv (sym ea ∙ not-false a h) k (omega arith)
+
+  pub records-all : 16 ≤ i → ((k : ℕ) → k < i → recordFits sheet (st .t) k (recordAt (st .tasks) k) ≡ true) → true ≡ recordsFit sheet st
+  unfolding recordsFit
+  records-all l inv = sym (every-of 16 _ (λ k m. inv k (omega arith)))
+
+-- the whole
+module _ (bytes : List ℕ) (table : Table) (st : State) where
+  pub late : 60000 < st .t → false ≡ possible (sheetOf bytes table) st
+  unfolding possible
+  late l = rw (lt-leb (st .t) 60000 l) refl
+
+  module _ (l : st .t ≤ 60000) where
+    pub many-switches : st .t < st .switches → false ≡ possible (sheetOf bytes table) st
+    unfolding possible
+    many-switches m = rw (le-leb (st .t) 60000 l, lt-leb (st .switches) (st .t) m) refl
+
+    module _ (m : st .switches ≤ st .t) (a : Bool) (ea : a ≡ runnerFits (table .n) (st .last)) where
+      from-runner : possible (sheetOf bytes table) st ≡ (a && recordsFit (sheetOf bytes table) st && noneHeldByTwo (sheetOf bytes table) (st .tasks))
+      unfolding possible recordsFit
+      from-runner =
+          (rw (le-leb (st .t) 60000 l, le-leb (st .switches) (st .t) m) refl)
+          ∙ ap (λ (b : Bool). b && recordsFit (sheetOf bytes table) st && noneHeldByTwo (sheetOf bytes table) (st .tasks))
+          (ap (λ (n : ℕ). runnerFits n (st .last)) (tasks-count bytes table) ∙ sym ea)
+
+      pub runner-off : not a ≡ true → false ≡ possible (sheetOf bytes table) st
+      runner-off h = sym (from-runner ∙ rw (not-true a h) refl)
+
+      module _ (h : not a ≡ false) (b : Bool) (eb : b ≡ recordsFit (sheetOf bytes table) st) where
+        pub records-off : not b ≡ true → false ≡ possible (sheetOf bytes table) st
+        records-off k = sym (from-runner ∙ rw (not-false a h, ← eb, not-true b k) refl)
+
+        pub else-single : not b ≡ false → (z : Bool) → z ≡ noneHeldByTwo (sheetOf bytes table) (st .tasks) → z ≡ possible (sheetOf bytes table) st
+        else-single k z ez = sym (from-runner ∙ rw (not-false a h, ← eb, not-false b k) (sym ez))

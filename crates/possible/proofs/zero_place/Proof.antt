@@ -1,0 +1,15 @@
+use Rattle.possible.proofs.Fits.{placed, ticks-left, else-released}
+use Rattle.possible.proofs.zero_place.Statement.{statement}
+use Rattle.possible.proofs.zero_place.Tie as tie
+
+returns : tie.Need-returns
+returns c = search placed
+
+returns-2 : tie.Need-returns-2
+returns-2 c = search ticks-left
+
+returns-3 : tie.Need-returns-3
+returns-3 c = search else-released
+
+pub zero-place-spec : {M : Type 1} → statement M
+zero-place-spec = tie.close (tie.spec returns returns-2 returns-3)

@@ -1,0 +1,236 @@
+// Refusal 16: whether a run state is possible for a sheet, decided for any record that is handed in. The functions follow
+// document 01's sentence from its first condition to its last.
+ghost use mathlib.Core.Path.{_≡_};
+ghost use Prim.Native.Nat.{_<_};
+ghost use lib.ListN.{drop};
+ghost use Rattle.rules.specs.Words.{within};
+ghost use Rattle.rules.specs.Record.{place, zeros, countsFit, runnerFits, zeroRecord, standsWell, jobFits, recordFits, noneHeldByTwo, possible};
+ghost use Rattle.table.specs.Table.{taskOf, sheetOf, Lies, Tabled};
+ghost use Rattle.possible.specs.Records.{recordsFit};
+ghost use Rattle.possible.specs.Holding.{sameHolder, sameHolders, holdsAlone};
+use choice::after_steps;
+use choice::holders_of;
+use rules::Counts;
+use rules::Job;
+use rules::State;
+use rules::TaskRecord;
+use table::Entry;
+use table::Here;
+use table::Table;
+use table::entry_at;
+use table::step_at;
+
+// every count and worst response is at most t;
+fn counts_fit(t: u16, c: Counts) -> bool
+    ensures { λ r. ⌜ r ≡ countsFit t c ⌝ }
+{
+    if t < c.releases {
+        return false;
+    }
+    if t < c.completions {
+        return false;
+    }
+    if t < c.misses {
+        return false;
+    }
+    if t < c.ran {
+        return false;
+    }
+    if t < c.blocked {
+        return false;
+    }
+    c.worst <= t
+}
+
+// the last runner is a rank below n, 254 or 255;
+fn runner_fits(n: u8, x: u8) -> bool
+    ensures { λ r. ⌜ r ≡ runnerFits n x ⌝ }
+{
+    if x < n {
+        return true;
+    }
+    if x == 254 {
+        return true;
+    }
+    x == 255
+}
+
+// position, left and release tick zero;
+fn zero_place(j: Job) -> bool
+    ensures { λ r. ⌜ r ≡ zeros (place j) ⌝ }
+{
+    if j.position != 0 {
+        return false;
+    }
+    if j.left != 0 {
+        return false;
+    }
+    j.release == 0
+}
+
+// records at n and above are zero;
+fn zero_record(x: TaskRecord) -> bool
+    ensures { λ r. ⌜ r ≡ zeroRecord x ⌝ }
+{
+    let j = x.job;
+    if j.pending {
+        return false;
+    }
+    if !zero_place(j) {
+        return false;
+    }
+    // a count that is at most 0 is zero
+    counts_fit(0, x.counts)
+}
+
+// 1 to its full length left;
+fn from_one_to(full: u16, left: u16) -> bool
+    ensures { λ r. ⌜ r ≡ within 1 full left ⌝ }
+{
+    if left < 1 {
+        return false;
+    }
+    left <= full
+}
+
+// (a pending one) stands at a run with 1 to its full length left, or at a lock with 0 left;
+fn stands_well(s: &[u8], e: Entry, position: usize, left: u16) -> bool
+    requires { ⌜ Lies (now s) e ⌝ }
+    ensures { λ r. ⌜ r ≡ standsWell (drop position (taskOf (now (s .entry)) e .steps)) left ⌝ }
+{
+    let x = step_at(s, e, position);
+    match x {
+        Here::Run(full) => from_one_to(full, left),
+        Here::Lock(_) => left == 0,
+        Here::Unlock(_) => false,
+        Here::End => false,
+    }
+}
+
+// a task not pending has position, left and release tick zero; a pending one has a release tick below t, and stands well;
+fn job_fits(s: &[u8], e: Entry, t: u16, j: Job) -> bool
+    requires { ⌜ Lies (now s) e ⌝ }
+    ensures { λ r. ⌜ r ≡ jobFits t (taskOf (now (s .entry)) e) j ⌝ }
+{
+    if !j.pending {
+        return zero_place(j);
+    }
+    if t <= j.release {
+        return false;
+    }
+    let position = j.position as usize;
+    stands_well(s, e, position, j.left)
+}
+
+// The record of rank i: its counts and its job fit, and at n and above it is zero.
+fn record_fits(s: &[u8], table: Table, t: u16, i: usize, x: TaskRecord) -> bool
+    requires { ⌜ Tabled (now s) table ⌝ }
+    ensures { λ r. ⌜ r ≡ recordFits (sheetOf (now (s .entry)) table) t i x ⌝ }
+{
+    if !counts_fit(t, x.counts) {
+        return false;
+    }
+    let e = entry_at(table, i);
+    if !job_fits(s, e, t, x.job) {
+        return false;
+    }
+    let n = table.n as usize;
+    if i < n {
+        return true;
+    }
+    zero_record(x)
+}
+
+// The sixteen records.
+fn records_fit(s: &[u8], table: Table, st: State) -> bool
+    requires { ⌜ Tabled (now s) table ⌝ }
+    ensures { λ r. ⌜ r ≡ recordsFit (sheetOf (now (s .entry)) table) st ⌝ }
+{
+    let t = st.t;
+    let mut i: usize = 0;
+    while i < 16 {
+        let x = st.tasks[i];
+        if !record_fits(s, table, t, i, x) {
+            return false;
+        }
+        i += 1;
+    }
+    true
+}
+
+// A semaphore of holder `own`, 255 if nobody holds it, has no other holder h.
+fn same_holder(own: u8, h: u8) -> bool
+    ensures { λ r. ⌜ r ≡ sameHolder own h ⌝ }
+{
+    if own == 255 {
+        return true;
+    }
+    h == own
+}
+
+// Each semaphore that has a holder in `own` has the same in `hs`.
+fn same_holders(own: [u8; 16], hs: [u8; 16]) -> bool
+    ensures { λ r. ⌜ r ≡ sameHolders own hs ⌝ }
+{
+    let mut k: usize = 0;
+    while k < 16 {
+        if !same_holder(own[k], hs[k]) {
+            return false;
+        }
+        k += 1;
+    }
+    true
+}
+
+// Each semaphore that a job of rank i holds has rank i for its holder in `hs`.
+fn holds_alone(s: &[u8], e: Entry, j: Job, i: u8, hs: [u8; 16]) -> bool
+    requires { ⌜ (Lies (now s) e) × (i < 255) ⌝ }
+    ensures { λ r. ⌜ r ≡ holdsAlone i (taskOf (now (s .entry)) e) j hs ⌝ }
+{
+    if !j.pending {
+        return true;
+    }
+    let position = j.position as usize;
+    let own = after_steps(s, e, 0, position, i, [255u8; 16]);
+    same_holders(own, hs)
+}
+
+// no semaphore is held by two: where two hold one, the holder is only one of them.
+fn none_held_by_two(s: &[u8], table: Table, st: State) -> bool
+    requires { ⌜ Tabled (now s) table ⌝ }
+    ensures { λ r. ⌜ r ≡ noneHeldByTwo (sheetOf (now (s .entry)) table) (st .tasks) ⌝ }
+{
+    let hs = holders_of(s, table, st);
+    let n = table.n as usize;
+    let mut i: usize = 0;
+    while i < n {
+        let e = table.entries[i];
+        let x = st.tasks[i];
+        if !holds_alone(s, e, x.job, i as u8, hs) {
+            return false;
+        }
+        i += 1;
+    }
+    true
+}
+
+// A state is possible when: t is at most 60,000; every count is at most t, that of switches too; and all of the above.
+pub fn possible_state(s: &[u8], table: Table, st: State) -> bool
+    requires { ⌜ Tabled (now s) table ⌝ }
+    ensures { λ r. ⌜ r ≡ possible (sheetOf (now (s .entry)) table) st ⌝ }
+{
+    let t = st.t;
+    if 60000 < t {
+        return false;
+    }
+    if t < st.switches {
+        return false;
+    }
+    if !runner_fits(table.n, st.last) {
+        return false;
+    }
+    if !records_fit(s, table, st) {
+        return false;
+    }
+    none_held_by_two(s, table, st)
+}
