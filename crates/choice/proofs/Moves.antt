@@ -27,9 +27,10 @@ use Rattle.rules.proofs.Walk.{Runs, runner-runs}
 use Rattle.rules.proofs.Kept.{released-fits, released-past, runner-rank, tick-parts}
 use Rattle.table.specs.Table.{here}
 use Rattle.table.specs.declared.Here.{Here}
-use Rattle.choice.specs.Holders.{Choosable, holder, holders, entryAfter, afterStep, afterSteps, reached, afterTick}
+use Rattle.choice.specs.Choosable.{Choosable}
+use Rattle.holders.specs.Holders.{holder, holders, entryAfter, afterStep, afterSteps, reached, afterTick}
 use Rattle.choice.proofs.Steps.{barred-goes}
-use Rattle.choice.proofs.Holders.{turn-row, without-same, without-other}
+use Rattle.holders.proofs.Holders.{turn-row, without-same, without-other}
 
 -- who holds what, and no semaphore held by two
 abbrev Single : (ℕ → ℕ → Bool) → Type 0

@@ -22,10 +22,11 @@ use Rattle.table.specs.declared.Entry.{Entry}
 use Rattle.table.specs.declared.Table.{Table}
 use Rattle.table.proofs.Laws.{task-at, tasks-count}
 use Rattle.choice.specs.declared.Way.{Way}
-use Rattle.choice.specs.Holders.{Choosable, holder, holders}
+use Rattle.choice.specs.Choosable.{Choosable}
+use Rattle.holders.specs.Holders.{holder, holders}
 use Rattle.choice.specs.Way.{nearest}
 use Rattle.choice.proofs.Steps.{goes-free, goes-anyway}
-use Rattle.choice.proofs.Holders.{holds-past}
+use Rattle.holders.proofs.Holders.{holds-past}
 use Rattle.choice.proofs.Ways.{nearest-past, free-by, next-by}
 
 -- the pending job of smallest rank

@@ -17,9 +17,9 @@ use Rattle.rules.specs.declared.TaskRecord.{TaskRecord}
 use Rattle.rules.proofs.Laws.{sure, below, and-at, true-false, and-left, and-right, and-both, and-no, implied, implies-no, implies-yes, some-of, none-of, every-at, every-of, every-no, row-at, someone, Found, smallest-found, smallest-le, smallest-is}
 use Rattle.rules.proofs.Choice.{holds-locks}
 use Rattle.choice.specs.declared.Way.{Way}
-use Rattle.choice.specs.Holders.{holder, holders}
+use Rattle.holders.specs.Holders.{holder, holders}
 use Rattle.choice.specs.Way.{way, byOther, nearer, nearest}
-use Rattle.choice.proofs.Holders.{holder-at}
+use Rattle.holders.proofs.Holders.{holder-at}
 
 -- one semaphore, by the tests
 module _ (i c h : ℕ) (w : Way) where

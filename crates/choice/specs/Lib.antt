@@ -1,3 +1,3 @@
 pub mod Steps
-pub mod Holders
+pub mod Choosable
 pub mod Way

@@ -2,7 +2,7 @@
 ghost use mathlib.Core.Path.{_≡_};
 ghost use mathlib.Core.List.{[]};
 ghost use mathlib.Core.Bool.{false};
-ghost use Prim.Native.Nat.{ℕ, _-_, _≤_, _<_};
+ghost use Prim.Native.Nat.{ℕ, _≤_, _<_};
 ghost use lib.ListN.{take, drop};
 ghost use Rattle.rules.specs.Words.{_<?_, row, any};
 ghost use Rattle.rules.specs.Sheet.{isRun, isLock};
@@ -10,8 +10,10 @@ ghost use Rattle.rules.specs.Record.{recordAt};
 ghost use Rattle.rules.specs.Choice.{runnerByte, ceiling, goes, topJob, walk, runner};
 ghost use Rattle.table.specs.Table.{here, taskOf, sheetOf, Lies, Tabled};
 ghost use Rattle.choice.specs.Steps.{runHere, lockHere};
-ghost use Rattle.choice.specs.Holders.{Choosable, holders, semaphoreOf, entryAfter, afterSteps, afterJob, afterTick};
+ghost use Rattle.holders.specs.Holders.{holders};
+ghost use Rattle.choice.specs.Choosable.{Choosable};
 ghost use Rattle.choice.specs.Way.{nearer, nearest};
+use holders::holders_of;
 use rules::Job;
 use rules::State;
 use table::Entry;
@@ -24,94 +26,6 @@ use table::step_at;
 pub struct Way {
     pub ceiling: u8,
     pub holder: u8,
-}
-
-// The semaphore of a lock or an unlock; 16 where a step has none.
-fn semaphore_of(x: Here) -> usize
-    ensures { λ r. ⌜ r ≡ semaphoreOf x ⌝ }
-{
-    match x {
-        Here::Run(_) => 16,
-        Here::Lock(k) => k as usize,
-        Here::Unlock(k) => k as usize,
-        Here::End => 16,
-    }
-}
-
-// Its entry after the step, which is one of rank i.
-fn entry_after(i: u8, x: Here, h: u8) -> u8
-    ensures { λ r. ⌜ r ≡ entryAfter i x h ⌝ }
-{
-    match x {
-        Here::Run(_) => h,
-        Here::Lock(_) => if h == 255 { i } else { h },
-        Here::Unlock(_) => if h == i { 255 } else { h },
-        Here::End => h,
-    }
-}
-
-// The holders after the steps of rank i from one position to another.
-pub fn after_steps(s: &[u8], e: Entry, from: usize, to: usize, i: u8, hs: [u8; 16]) -> [u8; 16]
-    requires { ⌜ Lies (now s) e ⌝ }
-    ensures { λ r. ⌜ r ≡ afterSteps i (take (to - from) (drop from (taskOf (now (s .entry)) e .steps))) hs ⌝ }
-{
-    let mut out = hs;
-    let mut p = from;
-    while p < to {
-        let x = step_at(s, e, p);
-        let k = semaphore_of(x);
-        if k < 16 {
-            let h = out[k];
-            out[k] = entry_after(i, x, h);
-        }
-        p += 1;
-    }
-    out
-}
-
-// The holders, with what a job of rank i holds.
-fn after_job(s: &[u8], e: Entry, j: Job, i: u8, hs: [u8; 16]) -> [u8; 16]
-    requires { ⌜ Lies (now s) e ⌝ }
-    ensures { λ r. ⌜ r ≡ afterJob i (taskOf (now (s .entry)) e) j hs ⌝ }
-{
-    if j.pending {
-        let position = j.position as usize;
-        return after_steps(s, e, 0, position, i, hs);
-    }
-    hs
-}
-
-// The holder of each semaphore, 255 if none.
-pub fn holders_of(s: &[u8], table: Table, st: State) -> [u8; 16]
-    requires { ⌜ Tabled (now s) table ⌝ }
-    ensures { λ r. ⌜ r ≡ holders (sheetOf (now (s .entry)) table) (st .tasks) ⌝ }
-{
-    let n = table.n as usize;
-    let mut hs = [255u8; 16];
-    let mut i: usize = 0;
-    while i < n {
-        let e = table.entries[i];
-        let r = st.tasks[i];
-        let j = r.job;
-        let more = after_job(s, e, j, i as u8, hs);
-        hs = more;
-        i += 1;
-    }
-    hs
-}
-
-// The holders after the tick of a runner of rank i, from those before it and its job before and after.
-pub fn holders_after(s: &[u8], e: Entry, i: u8, before: Job, after: Job, hs: [u8; 16]) -> [u8; 16]
-    requires { ⌜ Lies (now s) e ⌝ }
-    ensures { λ r. ⌜ r ≡ afterTick i (taskOf (now (s .entry)) e) before after hs ⌝ }
-{
-    let from = before.position as usize;
-    if after.pending {
-        let to = after.position as usize;
-        return after_steps(s, e, from, to, i, hs);
-    }
-    let end = e.count as usize;
-    after_steps(s, e, from, end, i, hs)
 }
 
 // What is in the way of job i: a semaphore with ceiling c and holder h, or what was so far.

@@ -21,7 +21,8 @@ use Rattle.rules.proofs.Laws.{length-row}
 use Rattle.rules.proofs.Possible.{Possible, possible-parts}
 use Rattle.rules.proofs.Walk.{runner-runs}
 use Rattle.rules.proofs.Kept.{startPossible, released-rising, after-time, after-possible}
-use Rattle.choice.specs.Holders.{Choosable, holders, afterTick}
+use Rattle.holders.specs.Holders.{holders, afterTick}
+use Rattle.choice.specs.Choosable.{Choosable}
 use Rattle.choice.proofs.Moves.{choosable as choosable-released, holders-released, holders-still, holders-ticked}
 use Rattle.effect.specs.Effect.{withTasks, runnerOf, AllBelow, Quiet}
 use Rattle.effect.proofs.Laws.{byte-back}

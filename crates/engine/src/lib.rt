@@ -96,7 +96,7 @@ pub fn run_of(s: &[u8], table: Table, cs: [u8; 16], h: u16, trace: &mut [u8]) ->
             let ran = effect::after_runner(s, table, x, st);
             st = ran;
             let after = st.tasks[i];
-            let held = choice::holders_after(s, e, x, before.job, after.job, hs);
+            let held = holders::holders_after(s, e, x, before.job, after.job, hs);
             hs = held;
         }
         let next = effect::closed(x, st);

@@ -16,8 +16,8 @@ use Rattle.rules.proofs.Laws.{sure, below, and-at, true-false, and-left, and-ri
 use Rattle.table.specs.Table.{taskOf, noEntry, sheetOf}
 use Rattle.table.specs.declared.Table.{Table}
 use Rattle.table.proofs.Laws.{entry-in, task-at, tasks-count}
-use Rattle.choice.specs.Holders.{holder, holders, holderWith, afterSteps}
-use Rattle.choice.proofs.Holders.{stepped, holds-past, holder-at}
+use Rattle.holders.specs.Holders.{holder, holders, holderWith, afterSteps}
+use Rattle.holders.proofs.Holders.{stepped, holds-past, holder-at}
 use Rattle.possible.specs.Holding.{sameHolder, sameHolders, holdsAlone}
 
 -- one semaphore in two rows of holders

@@ -8,8 +8,8 @@ ghost use Rattle.rules.specs.Record.{place, zeros, countsFit, runnerFits, zeroR
 ghost use Rattle.table.specs.Table.{taskOf, sheetOf, Lies, Tabled};
 ghost use Rattle.possible.specs.Records.{recordsFit};
 ghost use Rattle.possible.specs.Holding.{sameHolder, sameHolders, holdsAlone};
-use choice::after_steps;
-use choice::holders_of;
+use holders::after_steps;
+use holders::holders_of;
 use rules::Counts;
 use rules::Job;
 use rules::State;

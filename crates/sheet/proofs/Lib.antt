@@ -4,4 +4,3 @@ pub mod Nesting
 pub mod Steps
 pub mod Tasks
 pub mod Sheets
-pub mod Ceilings

@@ -1,3 +1,2 @@
 pub mod Nesting
 pub mod Reader
-pub mod Ceilings

@@ -1,19 +1,16 @@
-// The reader of task sheets: bytes give a table or a refusal. And the ceilings of a sheet's semaphores.
+// The reader of task sheets: bytes give a table or a refusal.
 // Each reading step answers a value with the next cursor, or a refusal: specs/Reader.antt says what the answers mean.
 ghost use mathlib.Core.Path.{_≡_};
 ghost use mathlib.Core.Bool.{false};
 ghost use Prim.Native.Nat.{_+_, _≤_};
 ghost use lib.ListN.{length, drop};
-ghost use Rattle.rules.specs.Words.{within, among, row};
-ghost use Rattle.rules.specs.Choice.{ceiling};
+ghost use Rattle.rules.specs.Words.{within, among};
 ghost use Rattle.rules.specs.Reading.{read, refusal, stepOf, known};
-ghost use Rattle.table.specs.Table.{taskOf, sheetOf, Lies, Tabled};
-ghost use Rattle.sheet.specs.Ceilings.{LockFits, LocksFit, withStep, withTask};
+ghost use Rattle.table.specs.Table.{Lies};
 ghost use Rattle.sheet.specs.Nesting.{opened, misplacedIn, nestBehind};
 ghost use Rattle.sheet.specs.Reader.{marked, readHead, headIn, headRefusal, readStep, stepIn, stepRefusal, readTaskHead, readStepsOf, entryIn, taskRefusal, TaskFrom, noEntries, turnedAway, ParsedFrom};
 use rules::Refusal;
 use table::Entry;
-use table::Here;
 use table::Table;
 
 // The head of a sheet, and where its tasks begin.
@@ -391,56 +388,4 @@ pub fn read_sheet(s: &[u8]) -> Parsed
         return refused(head_refusal(a));
     };
     read_tasks(s, h)
-}
-
-// The ceilings with a step of a task of rank i, which comes behind the ranks before.
-fn with_step(cs: [u8; 16], i: u8, x: Here) -> [u8; 16]
-    requires { ⌜ LockFits x ⌝ }
-    ensures { λ r. ⌜ r ≡ withStep i x cs ⌝ }
-{
-    let Here::Lock(v) = x else {
-        return cs;
-    };
-    let k = v as usize;
-    if cs[k] <= i {
-        return cs;
-    }
-    let mut next = cs;
-    next[k] = i;
-    next
-}
-
-// The ceilings with the steps of a task.
-fn with_task(s: &[u8], e: Entry, i: u8, cs: [u8; 16]) -> [u8; 16]
-    requires { ⌜ Lies (now s) e ⌝ }
-    requires { ⌜ LocksFit (taskOf (now s) e) ⌝ }
-    ensures { λ r. ⌜ r ≡ withTask i (taskOf (now (s .entry)) e) cs ⌝ }
-{
-    let mut next = cs;
-    let count = e.count as usize;
-    let mut p: usize = 0;
-    while p < count {
-        let x = table::step_at(s, e, p);
-        let more = with_step(next, i, x);
-        next = more;
-        p += 1;
-    }
-    next
-}
-
-// The ceiling of each semaphore: the smallest rank that has a lock of it; 255 if none.
-pub fn ceilings_of(s: &[u8], table: Table) -> [u8; 16]
-    requires { ⌜ Tabled (now s) table ⌝ }
-    ensures { λ r. ⌜ r ≡ row 16 (ceiling (sheetOf (now (s .entry)) table)) ⌝ }
-{
-    let mut cs = [255; 16];
-    let n = table.n;
-    let mut i: u8 = 0;
-    while i < n {
-        let e = table::entry_at(table, i as usize);
-        let more = with_task(s, e, i, cs);
-        cs = more;
-        i += 1;
-    }
-    cs
 }

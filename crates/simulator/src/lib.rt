@@ -46,7 +46,7 @@ pub fn ceilings(s: &[u8]) -> Ceilings
         };
     }
     let table = p.table;
-    let cs = sheet::ceilings_of(s, table);
+    let cs = holders::ceilings_of(s, table);
     Ceilings {
         refusal: refusal,
         ceilings: cs,
@@ -66,7 +66,7 @@ pub fn bounds(s: &[u8]) -> Bounds
         };
     }
     let table = p.table;
-    let cs = sheet::ceilings_of(s, table);
+    let cs = holders::ceilings_of(s, table);
     let bs = analysis::bounds_of(s, table, cs);
     Bounds {
         refusal: refusal,
@@ -91,7 +91,7 @@ pub fn laxities(s: &[u8]) -> Laxities
         };
     }
     let table = p.table;
-    let cs = sheet::ceilings_of(s, table);
+    let cs = holders::ceilings_of(s, table);
     let ls = analysis::laxities_of(s, table, cs);
     Laxities {
         refusal: refusal,
@@ -139,7 +139,7 @@ pub fn tick(s: &[u8], st: State) -> Ticked
     if st.t == 60000 {
         return not_ticked(refusal_of(17), st);
     }
-    let cs = sheet::ceilings_of(s, table);
+    let cs = holders::ceilings_of(s, table);
     let next = engine::tick_of(s, table, cs, st);
     let told = Told {
         refusal: refusal,
@@ -212,7 +212,7 @@ pub fn run(s: &[u8], horizon: u16, trace: &mut [u8]) -> Ran
         return not_run(refusal_of(15));
     }
     let table = p.table;
-    let cs = sheet::ceilings_of(s, table);
+    let cs = holders::ceilings_of(s, table);
     let end = engine::run_of(s, table, cs, horizon, trace);
     Ran {
         refusal: refusal,

@@ -1,15 +1,15 @@
 -- Laws of the table: the steps by their places, the entry and the task of a rank.
-use Prim.Native.Nat.{ℕ, zero, suc, _+_, _*_, _≤_, _<_}
+use Prim.Native.Nat.{ℕ, zero, suc, _+_, _-_, _*_, _≤_, _<_}
 use mathlib.Core.Path.{_≡_, refl, sym, ap, _∙_, subst}
 use mathlib.Core.Logic.{⊎-elim}
 use mathlib.Core.List.{List, [], _∷_}
 use native.Mathlib.Omega.{arith}
 use native.Mathlib.Numerals.{add-one}
-use lib.ListN.{length, getD, drop, List·getD-eq-default}
+use lib.ListN.{length, getD, take, drop, List·getD-eq-default}
 use lib.Seq.{drop-cons, drop-nil}
 use borrow.Author.Tests.{lt-ltb, le-ltb, ne-eqb, eq-eqb}
 use Rattle.rules.specs.Words.{row}
-use Rattle.rules.specs.Sheet.{run, noTask, taskAt}
+use Rattle.rules.specs.Sheet.{Step, run, noTask, taskAt}
 use Rattle.rules.specs.Reading.{byte, word, stepOf}
 use Rattle.rules.proofs.Laws.{below, length-row, row-at}
 use Rattle.table.specs.Table.{here, stepAt, stepsAt, taskOf, noEntry, entryOf, sheetOf, Lies, Tabled}
@@ -22,6 +22,13 @@ pub drop-past : {A : Type 0} (l : List A) (n : ℕ) → length l ≤ n → drop 
 drop-past [] n h = drop-nil n
 drop-past (x ∷ xs) zero h = absurd (omega arith)
 drop-past (x ∷ xs) (suc n) h = drop-past xs n (omega arith)
+
+-- what is left before position q: at p the step there, and what is left behind it
+pub left-more : (steps : List Step) (p q : ℕ) → p < q → take (q - p) (drop p steps) ≡ take (suc (q - (p + 1))) (drop p steps)
+left-more steps p q l = let e : q - p ≡ suc (q - (p + 1)) = omega arith in rw e refl
+
+pub left-none : (steps : List Step) (p q : ℕ) → q ≤ p → take (q - p) (drop p steps) ≡ []
+left-none steps p q l = let e : q - p ≡ 0 = omega arith in rw e refl
 
 -- the steps of an entry: so many, and from a position on the one there and the rest
 module _ (bytes : List ℕ) (e : Entry) where

@@ -11,7 +11,7 @@ use Rattle.rules.specs.Run.{after, written}
 use Rattle.rules.specs.declared.State.{State}
 use Rattle.table.specs.Table.{taskOf, sheetOf}
 use Rattle.table.proofs.Laws.{task-at, lies-from}
-use Rattle.choice.specs.Holders.{holders}
+use Rattle.holders.specs.Holders.{holders}
 use Rattle.choice.proofs.Moves.{holders-start}
 use Rattle.effect.specs.Effect.{withTasks, runnerOf, Quiet}
 use Rattle.effect.proofs.Laws.{releases-quiet, ran-nobody}

@@ -22,7 +22,7 @@ use Rattle.table.specs.declared.Table.{Table}
 use Rattle.table.specs.declared.Here.{Here}
 use Rattle.table.specs.declared.Here.the-variants.{Run, Lock, Unlock, End}
 use Rattle.table.proofs.Laws.{task-at, tasks-count, length-steps}
-use Rattle.sheet.specs.Ceilings.{LockFits, LocksFit, withStep, withSteps, withTask, ceilingsUpTo}
+use Rattle.holders.specs.Ceilings.{LockFits, LocksFit, withStep, withSteps, withTask, ceilingsUpTo}
 
 -- one step, as the code goes
 module _ (i : ℕ) (x : Here) (cs : List ℕ) where

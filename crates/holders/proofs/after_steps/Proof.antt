@@ -5,10 +5,10 @@ use mathlib.Core.Path.{_≡_, refl}
 use mathlib.Core.Logic.{⊎-elim}
 use lib.ListN.{take, drop}
 use Rattle.table.specs.Table.{taskOf}
-use Rattle.choice.specs.Holders.{afterSteps}
-use Rattle.choice.proofs.Steps.{after-none, after-one, after-all}
-use Rattle.choice.proofs.after_steps.Statement.{statement}
-use Rattle.choice.proofs.after_steps.Tie as tie
+use Rattle.holders.specs.Holders.{afterSteps}
+use Rattle.holders.proofs.Steps.{after-none, after-one, after-all}
+use Rattle.holders.proofs.after_steps.Statement.{statement}
+use Rattle.holders.proofs.after_steps.Tie as tie
 
 abbrev Inv-loop : tie.InvT-loop
 Inv-loop s e from to i out₀ p₀ out p = afterSteps i (take (to - p) (drop p (taskOf s e .steps))) out ≡ afterSteps i (take (to - from) (drop from (taskOf s e .steps))) out₀

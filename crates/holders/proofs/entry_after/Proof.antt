@@ -1,7 +1,7 @@
-use Rattle.choice.proofs.Steps.{run-leaves, lock-takes, lock-leaves, unlock-gives, unlock-leaves, end-leaves}
+use Rattle.holders.proofs.Steps.{run-leaves, lock-takes, lock-leaves, unlock-gives, unlock-leaves, end-leaves}
 use borrow.Author.Needs.{needs}
-use Rattle.choice.proofs.entry_after.Statement.{statement}
-use Rattle.choice.proofs.entry_after.Tie as tie
+use Rattle.holders.proofs.entry_after.Statement.{statement}
+use Rattle.holders.proofs.entry_after.Tie as tie
 
 enum-told : tie.Need-enum-told
 enum-told c = search needs

@@ -1,7 +1,7 @@
-use Rattle.choice.proofs.Steps.{tick-comes, tick-completes}
+use Rattle.holders.proofs.Steps.{tick-comes, tick-completes}
 use borrow.Author.Needs.{needs}
-use Rattle.choice.proofs.holders_after.Statement.{statement}
-use Rattle.choice.proofs.holders_after.Tie as tie
+use Rattle.holders.proofs.holders_after.Statement.{statement}
+use Rattle.holders.proofs.holders_after.Tie as tie
 
 cast-from : tie.Need-cast-from
 cast-from c = search needs

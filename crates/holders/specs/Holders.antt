@@ -1,21 +1,14 @@
 -- Who holds what, as sixteen numbers: one entry per semaphore.
-use Prim.Native.Nat.{ℕ, _-_, _≤_, _<_}
-use mathlib.Core.Path.{_≡_}
+use Prim.Native.Nat.{ℕ, _-_}
 use mathlib.Core.List.{List, [], _∷_}
-use mathlib.Core.Bool.{true, false}
 use lib.ListN.{length, getD, take, drop, set}
 use Rattle.rules.specs.Words.{if_then_else_, _<?_, _=?_, smallest, row, among}
 use Rattle.rules.specs.Sheet.{Step, Task, Sheet}
-use Rattle.rules.specs.Record.{recordAt, behind, holds, noneHeldByTwo}
+use Rattle.rules.specs.Record.{behind, holds}
 use Rattle.rules.specs.declared.Job.{Job}
 use Rattle.rules.specs.declared.TaskRecord.{TaskRecord}
 use Rattle.table.specs.Table.{here}
 use Rattle.table.specs.declared.Here.{Here}
-
--- What the choice needs of sixteen records, and a possible state has.
-pub record Choosable (sheet : Sheet) (records : List TaskRecord) : Type 0 where
-  pub few : (i : ℕ) → i < 16 → length (sheet .tasks) ≤ i → recordAt records i .job .pending ≡ false
-  pub single : noneHeldByTwo sheet records ≡ true
 
 -- The rank that holds semaphore s, 255 if none does.
 unfoldable pub holder : Sheet → List TaskRecord → (s : ℕ) → ℕ

@@ -1,9 +1,9 @@
 use mathlib.Core.Logic.{⊎-elim}
 use native.Mathlib.Omega.{arith}
 use borrow.Author.Needs.{needs}
-use Rattle.sheet.proofs.Ceilings.{no-lock, lock-kept, lock-lowers}
-use Rattle.sheet.proofs.with_step.Statement.{statement}
-use Rattle.sheet.proofs.with_step.Tie as tie
+use Rattle.holders.proofs.Ceilings.{no-lock, lock-kept, lock-lowers}
+use Rattle.holders.proofs.with_step.Statement.{statement}
+use Rattle.holders.proofs.with_step.Tie as tie
 
 enum-known-x : tie.Need-enum-known-x
 enum-known-x c = search needs

@@ -3,10 +3,10 @@ use mathlib.Core.Path.{_≡_}
 use native.Mathlib.Omega.{arith}
 use Rattle.table.specs.Table.{sheetOf}
 use Rattle.table.proofs.Laws.{lies-from}
-use Rattle.sheet.specs.Ceilings.{ceilingsUpTo}
-use Rattle.sheet.proofs.Ceilings.{locks-fit, ceilings-none, ceilings-more, ceilings-all}
-use Rattle.sheet.proofs.ceilings_of.Statement.{statement}
-use Rattle.sheet.proofs.ceilings_of.Tie as tie
+use Rattle.holders.specs.Ceilings.{ceilingsUpTo}
+use Rattle.holders.proofs.Ceilings.{locks-fit, ceilings-none, ceilings-more, ceilings-all}
+use Rattle.holders.proofs.ceilings_of.Statement.{statement}
+use Rattle.holders.proofs.ceilings_of.Tie as tie
 
 abbrev Inv-loop : tie.InvT-loop
 Inv-loop s table cs₀ n i₀ cs i = (i ≤ n) × (cs ≡ ceilingsUpTo (sheetOf s table) i)

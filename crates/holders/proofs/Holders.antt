@@ -18,7 +18,7 @@ use Rattle.table.specs.Table.{here, taskOf, noEntry, sheetOf}
 use Rattle.table.specs.declared.Table.{Table}
 use Rattle.table.specs.declared.Here.{Here}
 use Rattle.table.proofs.Laws.{entry-in, task-at, tasks-count}
-use Rattle.choice.specs.Holders.{holder, holders, holderWith, semaphoreOf, entryAfter, afterStep, afterSteps, afterJob}
+use Rattle.holders.specs.Holders.{holder, holders, holderWith, semaphoreOf, entryAfter, afterStep, afterSteps, afterJob}
 
 -- sixteen entries f, of which entry s becomes another
 set-row : (s h : ℕ) (f g : ℕ → ℕ) → s < 16 → h ≡ g s → ((k : ℕ) → k < 16 → (s ≡ k → ⊥) → f k ≡ g k) → set (row 16 f) s h ≡ row 16 g

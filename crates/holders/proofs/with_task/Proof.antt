@@ -3,10 +3,10 @@ use mathlib.Core.Path.{_≡_, refl}
 use native.Mathlib.Omega.{arith}
 use borrow.Author.Needs.{needs}
 use Rattle.table.specs.Table.{taskOf}
-use Rattle.sheet.specs.Ceilings.{withSteps}
-use Rattle.sheet.proofs.Ceilings.{fits-here, steps-again, steps-done}
-use Rattle.sheet.proofs.with_task.Statement.{statement}
-use Rattle.sheet.proofs.with_task.Tie as tie
+use Rattle.holders.specs.Ceilings.{withSteps}
+use Rattle.holders.proofs.Ceilings.{fits-here, steps-again, steps-done}
+use Rattle.holders.proofs.with_task.Statement.{statement}
+use Rattle.holders.proofs.with_task.Tie as tie
 
 abbrev Inv-loop : tie.InvT-loop
 Inv-loop s e i next₀ count p₀ next p = (p ≤ count) × (next ≡ withSteps i (taskOf s e) p next₀)

@@ -6,10 +6,10 @@ use mathlib.Core.List.{[]}
 use Rattle.rules.specs.Words.{row}
 use Rattle.table.specs.Table.{sheetOf}
 use Rattle.table.proofs.Laws.{entry-in, lies-from}
-use Rattle.choice.specs.Holders.{holderWith}
-use Rattle.choice.proofs.Holders.{ranks-none, ranks-more, ranks-all}
-use Rattle.choice.proofs.holders_of.Statement.{statement}
-use Rattle.choice.proofs.holders_of.Tie as tie
+use Rattle.holders.specs.Holders.{holderWith}
+use Rattle.holders.proofs.Holders.{ranks-none, ranks-more, ranks-all}
+use Rattle.holders.proofs.holders_of.Statement.{statement}
+use Rattle.holders.proofs.holders_of.Tie as tie
 
 abbrev Inv-loop : tie.InvT-loop
 Inv-loop s table st n hs₀ i₀ hs i = (i ≤ n) × (hs ≡ row 16 (holderWith (sheetOf s table) (st .tasks) i []))

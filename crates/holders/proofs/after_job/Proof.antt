@@ -1,7 +1,7 @@
-use Rattle.choice.proofs.Steps.{job-rests, job-holds}
+use Rattle.holders.proofs.Steps.{job-rests, job-holds}
 use borrow.Author.Needs.{needs}
-use Rattle.choice.proofs.after_job.Statement.{statement}
-use Rattle.choice.proofs.after_job.Tie as tie
+use Rattle.holders.proofs.after_job.Statement.{statement}
+use Rattle.holders.proofs.after_job.Tie as tie
 
 cast-position : tie.Need-cast-position
 cast-position c = search needs
