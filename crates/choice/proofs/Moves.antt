@@ -11,9 +11,10 @@ use borrow.Author.Tests.{ltb-true, leb-false, eq-eqb, ne-eqb, eqb-true, eqb-fals
 use Rattle.rules.specs.Words.{if_then_else_, _<?_, _≤?_, _=?_, some, smallest, row, any, among, leading}
 use Rattle.rules.specs.Sheet.{Step, run, lock, unlock, Task, Sheet, Body, taskAt, isRun, isLock, isUnlock, isLockOf, without, heldOnTop, held}
 use Rattle.rules.specs.Reading.{read, readSheet}
-use Rattle.rules.specs.Record.{start, recordAt, behind, ahead, carries, holds, noneHeldByTwo}
+use Rattle.rules.specs.Fields.{start}
+use Rattle.rules.specs.Record.{recordAt, behind, ahead, carries, holds, noneHeldByTwo}
 use Rattle.rules.specs.Choice.{job, locks, ceiling, atRun, fresh, goes, heldByOther, freeOfCeilings, mayGo, runner}
-use Rattle.rules.specs.Tick.{released, afterReleases, nextRun, behindUnlocks, advanced, afterRunner, closed, tick}
+use Rattle.rules.specs.Tick.{released, afterReleases, nextRun, behindUnlocks, advanced, afterRunner, closed, runnerOf, tick}
 use Rattle.rules.specs.declared.Job.{Job}
 use Rattle.rules.specs.declared.TaskRecord.{TaskRecord}
 use Rattle.rules.specs.declared.State.{State}
@@ -334,7 +335,7 @@ module _ (bytes : List ℕ) (sheet : Sheet) (e : readSheet bytes ≡ read sheet)
 
     -- THE LAW OF A TICK: the holders change by the steps that the runner passes
     pub holders-ticked : st .t < 60000 → holders sheet next ≡ afterTick i task (old .job) (recordAt next i .job) (holders sheet rs)
-    unfolding holders holder afterTick heldByOther tick closed
+    unfolding holders holder afterTick heldByOther tick runnerOf closed
     holders-ticked early =
         moved (holds sheet rs) (holds sheet next) i (runs .rank) released-single (tick-parts bytes sheet e st π early .single) stays
         (held (behind task (old .job))) passed had has alone

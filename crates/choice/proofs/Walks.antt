@@ -9,7 +9,8 @@ use lib.ListN.{length, getD}
 use borrow.Author.Tests.{eqb-true}
 use Rattle.rules.specs.Words.{_<?_, _=?_, row, any}
 use Rattle.rules.specs.Sheet.{Step, run, lock, unlock, Task, Sheet, taskAt, isLockOf}
-use Rattle.rules.specs.Record.{blank, recordAt, holds}
+use Rattle.rules.specs.Fields.{blank}
+use Rattle.rules.specs.Record.{recordAt, holds}
 use Rattle.rules.specs.Choice.{job, runnerByte, locks, ceiling, goes, topJob, freeOfCeilings, mayGo, nextCandidate, walk, runner}
 use Rattle.rules.specs.Laws.{All, StepLimits, Limits}
 use Rattle.rules.specs.declared.TaskRecord.{TaskRecord}

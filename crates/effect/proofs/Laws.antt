@@ -1,5 +1,5 @@
 -- Laws of the tick's effect: the step at a position, a record and its rank, the sixteen records.
-use Prim.Native.Nat.{ℕ, suc, _+_, _-_, _*_, _/_, _%_, _≤_, _<_, max}
+use Prim.Native.Nat.{ℕ, suc, _+_, _-_, _*_, _/_, _%_, _≤_, _<_}
 use mathlib.Core.Path.{_≡_, refl, sym, ap, _∙_}
 use mathlib.Core.Logic.{⊎-elim}
 use mathlib.Core.List.{List, [], _∷_}
@@ -13,21 +13,23 @@ use lib.Seq.{drop-drop, ext-getD, getD-set-same, getD-set-other}
 use borrow.Author.Tests.{lt-ltb, le-ltb, le-leb, lt-leb, eq-eqb, ne-eqb, eqb-true, eqb-false}
 use Rattle.rules.specs.Words.{if_then_else_, _<?_, _=?_, any, leading}
 use Rattle.rules.specs.Sheet.{Step, run, lock, unlock, Task, Sheet, taskAt, isLock, isUnlock}
-use Rattle.rules.specs.Record.{noJob, blank, recordAt, ahead}
+use Rattle.rules.specs.Fields.{Releases, Misses, TicksRun, TicksBlocked, up, standing, movedTo, noJob, blank, withTasks}
+use Rattle.rules.specs.Record.{recordAt, ahead}
 use Rattle.rules.specs.Choice.{full, Runner, job, stuck, idle, runnerByte}
-use Rattle.rules.specs.Tick.{standing, releasesUp, missesUp, ranUp, blockedUp, completionsUp, releasesAt, released, afterReleases, nextRun, leftOfRun, behindUnlocks, advanced, spent, afterRunner, closed}
+use Rattle.rules.specs.Tick.{completed, releasesAt, released, afterReleases, nextRun, leftOfRun, behindUnlocks, advanced, spent, afterRunner, closed}
 use Rattle.rules.specs.declared.Job.{Job}
 use Rattle.rules.specs.declared.Counts.{Counts}
 use Rattle.rules.specs.declared.TaskRecord.{TaskRecord}
 use Rattle.rules.specs.declared.State.{State}
 use Rattle.rules.proofs.Laws.{sure, below, true-false, length-row, row-at}
 use Rattle.rules.proofs.Reading.{periods}
+use Rattle.rules.proofs.Tick.{advanced-cases}
 use Rattle.table.specs.Table.{here, noEntry, entryOf, taskOf, sheetOf, Tabled}
 use Rattle.table.specs.declared.Entry.{Entry}
 use Rattle.table.specs.declared.Table.{Table}
 use Rattle.table.specs.declared.Here.{Here}
 use Rattle.table.proofs.Laws.{entry-in, task-at, tasks-count}
-use Rattle.effect.specs.Effect.{withTasks, runnerOf, Rests, Quiet, changedBelow, blockedOnce, eachBlocked}
+use Rattle.effect.specs.Effect.{runnerNamed, Rests, Quiet, changedBelow, blockedOnce, eachBlocked}
 
 -- what the first of some steps says: the ticks left on coming to it, whether it is a lock, whether it is an unlock
 unfoldable pub leftHere : Here → ℕ
@@ -146,19 +148,15 @@ module _ (t : ℕ) (task : Task) (r : TaskRecord) where
   unfolding released
   released-not e = rw e refl
 
-  module _ (due : releasesAt t task ≡ true) (c : Counts) (ec : c ≡ releasesUp (r .counts)) where
-    pub released-missed : r .job .pending ≡ true → (d : Counts) → d ≡ missesUp c → record { job = r .job; counts = d } ≡ released t task r
+  module _ (due : releasesAt t task ≡ true) (c : Counts) (ec : c ≡ up Releases (r .counts)) where
+    pub released-missed : r .job .pending ≡ true → (d : Counts) → d ≡ up Misses c → record { job = r .job; counts = d } ≡ released t task r
     unfolding released
     released-missed p d ed = simp (due, p, ed, ec)
 
-    pub released-started : r .job .pending ≡ false → (left : ℕ) → left ≡ full (drop 0 (task .steps)) → record { job = standing 0 left t; counts = c } ≡ released t task r
+    pub released-started : r .job .pending ≡ false → (left : ℕ) → left ≡ full (drop 0 (task .steps)) → (k : Job) → k ≡ standing 0 left t
+        → record { job = k; counts = c } ≡ released t task r
     unfolding released
-    released-started p left el = simp (due, p, el, ec)
-
--- completions rise, with the larger response
-pub completions-risen : (response : ℕ) (c : Counts) (w : ℕ) → w ≡ max (c .worst) response
-    → record { releases = c .releases; completions = c .completions + 1; misses = c .misses; ran = c .ran; blocked = c .blocked; worst = w } ≡ completionsUp response c
-completions-risen response c w e = rw e refl
+    released-started p left el k ek = simp (due, p, ek, el, ec)
 
 -- rule 5: the ticks left of the next run
 module _ (task : Task) (j : Job) (p : ℕ) (ep : p ≡ nextRun task j) where
@@ -189,42 +187,28 @@ next-run-fits task j p e few h =
 
 -- the record of the job that runs
 module _ (t : ℕ) (task : Task) (r : TaskRecord) (p left : ℕ) (ep : p ≡ nextRun task (r .job)) (el : left ≡ leftOfRun task (r .job)) where
-  pub advanced-on : 1 < left → record { job = standing p (left - 1) (r .job .release); counts = r .counts } ≡ advanced t task r
+  pub advanced-on : 1 < left → (k : Job) → k ≡ movedTo p (left - 1) (r .job) → record { job = k; counts = r .counts } ≡ advanced t task r
   unfolding advanced
-  advanced-on h = rw (ep, ← el, lt-ltb 1 left h) refl
+  advanced-on h k ek = rw (ek, ep, ← el, lt-ltb 1 left h) refl
 
   module _ (h : left ≤ 1) (next : ℕ) (en : next ≡ p + 1 + leading isUnlock (drop (p + 1) (task .steps))) where
     behind : next ≡ behindUnlocks task (r .job)
     unfolding behindUnlocks
     behind = en ∙ ap (λ (k : ℕ). k + 1 + leading isUnlock (drop (k + 1) (task .steps))) ep
 
-    pub advanced-further : next < length (task .steps) → (f : ℕ) → f ≡ full (drop next (task .steps))
-        → record { job = standing next f (r .job .release); counts = r .counts } ≡ advanced t task r
+    pub advanced-further : next < length (task .steps) → (f : ℕ) → f ≡ full (drop next (task .steps)) → (k : Job) → k ≡ movedTo next f (r .job)
+        → record { job = k; counts = r .counts } ≡ advanced t task r
     unfolding advanced
-    advanced-further l f ef = rw (← el, ← behind, le-ltb 1 left h, lt-ltb next (length (task .steps)) l, ef) refl
+    advanced-further l f ef k ek = rw (ek, ← el, ← behind, le-ltb 1 left h, lt-ltb next (length (task .steps)) l, ef) refl
 
-    pub advanced-done : length (task .steps) ≤ next → (w : ℕ) → w ≡ t + 1 - r .job .release → (d : Counts) → d ≡ completionsUp w (r .counts)
-        → record { job = noJob; counts = d } ≡ advanced t task r
+    pub advanced-done : length (task .steps) ≤ next → (w : ℕ) → w ≡ t + 1 - r .job .release → (d : Counts) → d ≡ completed w (r .counts)
+        → (k : Job) → k ≡ noJob → record { job = k; counts = d } ≡ advanced t task r
     unfolding advanced
-    advanced-done l w ew d ed = rw (← el, ← behind, le-ltb 1 left h, le-ltb next (length (task .steps)) l, ed, ew) refl
-
--- what holds of each of three holds of the one that two tests choose
-chosen : {A : Type 0} (P : A → Type 0) (a b : Bool) (x y z : A) → P x → P y → P z → P (if a then x else if b then y else z)
-chosen P true b x y z p q r = p
-chosen P false true x y z p q r = q
-chosen P false false x y z p q r = r
+    advanced-done l w ew d ed k ek = rw (ek, ← el, ← behind, le-ltb 1 left h, le-ltb next (length (task .steps)) l, ed, ew) refl
 
 -- it changes no ticks run
 pub advanced-ran : (t : ℕ) (task : Task) (r : TaskRecord) → advanced t task r .counts .ran ≡ r .counts .ran
-unfolding advanced
-advanced-ran t task r =
-    let j = r .job in
-    let next = behindUnlocks task j in
-    chosen (λ (q : TaskRecord). q .counts .ran ≡ r .counts .ran) (1 <? leftOfRun task j) (next <? length (task .steps))
-    (record { job = standing (nextRun task j) (leftOfRun task j - 1) (j .release); counts = r .counts })
-    (record { job = standing next (full (drop next (task .steps))) (j .release); counts = r .counts })
-    (record { job = noJob; counts = completionsUp (t + 1 - j .release) (r .counts) })
-    refl refl refl
+advanced-ran t task r = advanced-cases (λ (q : TaskRecord). q .counts .ran ≡ r .counts .ran) t task r (λ l. refl) (λ l h. refl) (λ l h. refl)
 
 -- the sixteen records are the same where each is
 pub same-records : (a b : List TaskRecord) → length a ≡ 16 → length b ≡ 16 → ((i : ℕ) → i < 16 → recordAt a i ≡ recordAt b i) → a ≡ b
@@ -340,7 +324,7 @@ module _ (bytes : List ℕ) (table : Table) (from i : ℕ) (l : i < table .n) (d
       (below j i)
 
 -- rule 6: the jobs above the runner
-pub blocked-yes : (r : TaskRecord) → r .job .pending ≡ true → (c : Counts) → c ≡ blockedUp (r .counts) → record { job = r .job; counts = c } ≡ blockedOnce r
+pub blocked-yes : (r : TaskRecord) → r .job .pending ≡ true → (c : Counts) → c ≡ up TicksBlocked (r .counts) → record { job = r .job; counts = c } ≡ blockedOnce r
 unfolding blockedOnce
 blocked-yes r p c e = simp (p, e)
 
@@ -372,42 +356,42 @@ module _ (x t i : ℕ) (task : Task) (r : TaskRecord) where
   unfolding spent
   spent-behind l = rw (ne-eqb i x (λ e. omega arith), le-ltb i x (omega arith)) refl
 
-pub spent-runner : (t x : ℕ) (task : Task) (r a : TaskRecord) (c : Counts) → a ≡ advanced t task r → c ≡ ranUp (a .counts)
+pub spent-runner : (t x : ℕ) (task : Task) (r a : TaskRecord) (c : Counts) → a ≡ advanced t task r → c ≡ up TicksRun (a .counts)
     → record { job = a .job; counts = c } ≡ spent (job x) t x task r
 unfolding spent
 spent-runner t x task r a c ea ec = rw (eq-eqb x x refl, ec, ea) refl
 
 module _ (bytes : List ℕ) (table : Table) (st : State) (x : ℕ) where
-  ran-at : (i : ℕ) → i < 16 → recordAt (afterRunner (runnerOf x) (sheetOf bytes table) (st .t) (st .tasks)) i
-      ≡ spent (runnerOf x) (st .t) i (taskAt (sheetOf bytes table) i) (recordAt (st .tasks) i)
+  ran-at : (i : ℕ) → i < 16 → recordAt (afterRunner (runnerNamed x) (sheetOf bytes table) (st .t) (st .tasks)) i
+      ≡ spent (runnerNamed x) (st .t) i (taskAt (sheetOf bytes table) i) (recordAt (st .tasks) i)
   unfolding afterRunner recordAt
   ran-at i l = row-at 16 _ blank i l
 
-  ran-length : length (afterRunner (runnerOf x) (sheetOf bytes table) (st .t) (st .tasks)) ≡ 16
+  ran-length : length (afterRunner (runnerNamed x) (sheetOf bytes table) (st .t) (st .tasks)) ≡ 16
   unfolding afterRunner
   ran-length = length-row 16 _
 
   -- 254 and 255 leave every record
-  nobody : 16 ≤ x → (i : ℕ) (task : Task) (r : TaskRecord) → spent (runnerOf x) (st .t) i task r ≡ r
-  unfolding runnerOf spent
+  nobody : 16 ≤ x → (i : ℕ) (task : Task) (r : TaskRecord) → spent (runnerNamed x) (st .t) i task r ≡ r
+  unfolding runnerNamed spent
   nobody h i task r = rw (le-ltb x 16 h) (go (x =? 254))
     where
       go : (b : Bool) → spent (if b then stuck else idle) (st .t) i task r ≡ r
       go true = refl
       go false = refl
 
-  pub ran-nobody : 16 ≤ x → length (st .tasks) ≡ 16 → st ≡ withTasks st (afterRunner (runnerOf x) (sheetOf bytes table) (st .t) (st .tasks))
+  pub ran-nobody : 16 ≤ x → length (st .tasks) ≡ 16 → st ≡ withTasks st (afterRunner (runnerNamed x) (sheetOf bytes table) (st .t) (st .tasks))
   ran-nobody h z = ap (withTasks st) (same-records (st .tasks) _ z ran-length (λ i l.
       sym (ran-at i l ∙ nobody h i (taskAt (sheetOf bytes table) i) (recordAt (st .tasks) i))))
 
   module _ (h : x < 16) where
-    someone : runnerOf x ≡ job x
-    unfolding runnerOf
+    someone : runnerNamed x ≡ job x
+    unfolding runnerNamed
     someone = rw (lt-ltb x 16 h) refl
 
     pub ran-job : (next : State) → next ≡ withTasks st (eachBlocked x (st .tasks)) → (e : Entry) → e ≡ entryOf table x
         → (q : TaskRecord) → q ≡ spent (job x) (st .t) x (taskOf bytes e) (recordAt (next .tasks) x)
-        → withTasks next (set (next .tasks) x q) ≡ withTasks st (afterRunner (runnerOf x) (sheetOf bytes table) (st .t) (st .tasks))
+        → withTasks next (set (next .tasks) x q) ≡ withTasks st (afterRunner (runnerNamed x) (sheetOf bytes table) (st .t) (st .tasks))
     ran-job next en e ee q eq =
         let above = eachBlocked x (st .tasks) in
         let task = ap (taskOf bytes) ee ∙ sym (task-at bytes table x) in
@@ -425,8 +409,8 @@ module _ (bytes : List ℕ) (table : Table) (st : State) (x : ℕ) where
         (sure (i =? x))))
 
 -- a runner's byte names it
-pub byte-back : (x : Runner) → ((k : ℕ) → x ≡ job k → k < 16) → runnerOf (runnerByte x) ≡ x
-unfolding runnerOf runnerByte
+pub byte-back : (x : Runner) → ((k : ℕ) → x ≡ job k → k < 16) → runnerNamed (runnerByte x) ≡ x
+unfolding runnerNamed runnerByte
 byte-back (job k) rank = rw (lt-ltb k 16 (rank k refl)) refl
 byte-back stuck rank = refl
 byte-back idle rank = refl

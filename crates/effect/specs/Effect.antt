@@ -1,4 +1,4 @@
--- What the contracts say beside the rules: a state with other records, the runner that a byte names, room to count on.
+-- What the contracts say beside the rules: the runner that a byte names, ticks without a release, records changed in turn.
 use Prim.Native.Nat.{ℕ, _≤_, _<_}
 use mathlib.Core.Path.{_≡_}
 use mathlib.Core.List.{List}
@@ -6,31 +6,15 @@ use mathlib.Core.Bool.{false}
 use lib.ListN.{length}
 use Rattle.rules.specs.Words.{if_then_else_, _<?_, _=?_, row}
 use Rattle.rules.specs.Sheet.{Task, Sheet, taskAt}
+use Rattle.rules.specs.Fields.{TicksBlocked, up, withCounts}
 use Rattle.rules.specs.Record.{recordAt}
-use Rattle.rules.specs.Tick.{blockedUp, releasesAt}
+use Rattle.rules.specs.Tick.{releasesAt}
 use Rattle.rules.specs.Choice.{Runner, job, stuck, idle}
-use Rattle.rules.specs.declared.Counts.{Counts}
 use Rattle.rules.specs.declared.TaskRecord.{TaskRecord}
-use Rattle.rules.specs.declared.State.{State}
-
--- A state with other records.
-abbrev pub withTasks : State → List TaskRecord → State
-withTasks st records = record { t = st .t; switches = st .switches; last = st .last; tasks = records }
 
 -- The runner that a byte names: a rank, 254 (stuck) or 255 (idle).
-unfoldable pub runnerOf : (x : ℕ) → Runner
-runnerOf x = if x <? 16 then job x else if x =? 254 then stuck else idle
-
--- What a tick counts is below a number; below 65,535 it can rise by one in 16 bits.
-pub record CountsBelow (m : ℕ) (c : Counts) : Type 0 where
-  pub releases : c .releases < m
-  pub completions : c .completions < m
-  pub misses : c .misses < m
-  pub ran : c .ran < m
-  pub blocked : c .blocked < m
-
-abbrev pub AllBelow : (m : ℕ) → List TaskRecord → Type 0
-AllBelow m records = (i : ℕ) → i < 16 → CountsBelow m (recordAt records i .counts)
+unfoldable pub runnerNamed : (x : ℕ) → Runner
+runnerNamed x = if x <? 16 then job x else if x =? 254 then stuck else idle
 
 -- From one tick up to another a task has no release; none of a sheet's has.
 abbrev pub Rests : (from to : ℕ) → Task → Type 0
@@ -45,7 +29,7 @@ changedBelow n f records = row 16 λ i. if i <? n then f i (recordAt records i) 
 
 -- A pending job is blocked for a tick.
 unfoldable pub blockedOnce : TaskRecord → TaskRecord
-blockedOnce r = if r .job .pending then record { job = r .job; counts = blockedUp (r .counts) } else r
+blockedOnce r = if r .job .pending then withCounts (up TicksBlocked (r .counts)) r else r
 
 abbrev pub eachBlocked : (n : ℕ) → List TaskRecord → List TaskRecord
 eachBlocked n records = changedBelow n (λ i r. blockedOnce r) records

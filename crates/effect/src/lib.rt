@@ -1,6 +1,5 @@
 // What a tick does apart from the choice of the runner: the releases (rule 1), the runner's tick (rules 5 and 6) and the
 // tick's end (rule 7). Each contract names the definition of rules/specs/Tick.antt that the function is equal to.
-use rules::Counts;
 use rules::Job;
 use rules::State;
 use rules::TaskRecord;
@@ -10,70 +9,16 @@ use table::Table;
 ghost use mathlib.Core.Path.{_≡_};
 ghost use mathlib.Core.List.{List};
 ghost use mathlib.Core.Bool.{true};
-ghost use Prim.Native.Nat.{ℕ, _+_, _-_, _<_, _≤_, max};
+ghost use Prim.Native.Nat.{ℕ, _+_, _-_, _<_, _≤_};
 ghost use lib.ListN.{take, drop};
 ghost use Rattle.rules.specs.Words.{if_then_else_, _=?_, any, leading};
 ghost use Rattle.rules.specs.Sheet.{isLock, isUnlock};
 ghost use Rattle.rules.specs.Choice.{full, job};
-ghost use Rattle.rules.specs.Tick.{releasesUp, missesUp, ranUp, blockedUp, completionsUp, releasesAt, released, afterReleases, leftOfRun, nextRun, advanced, spent, afterRunner, closed};
+ghost use Rattle.rules.specs.Fields.{withTasks};
+ghost use Rattle.rules.specs.Tick.{releasesAt, released, afterReleases, leftOfRun, nextRun, advanced, spent, afterRunner, closed};
 ghost use Rattle.table.specs.Table.{taskOf, sheetOf, Lies, Tabled};
-ghost use Rattle.effect.specs.Effect.{withTasks, runnerOf, CountsBelow, AllBelow, Rests, Quiet, eachBlocked};
-
-// Counts that have risen by one.
-fn releases_up(c: Counts) -> Counts
-    requires { ⌜ c .releases < 65535 ⌝ }
-    ensures { λ r. ⌜ r ≡ releasesUp c ⌝ }
-{
-    let mut d = c;
-    d.releases = c.releases + 1;
-    d
-}
-
-fn misses_up(c: Counts) -> Counts
-    requires { ⌜ c .misses < 65535 ⌝ }
-    ensures { λ r. ⌜ r ≡ missesUp c ⌝ }
-{
-    let mut d = c;
-    d.misses = c.misses + 1;
-    d
-}
-
-fn ran_up(c: Counts) -> Counts
-    requires { ⌜ c .ran < 65535 ⌝ }
-    ensures { λ r. ⌜ r ≡ ranUp c ⌝ }
-{
-    let mut d = c;
-    d.ran = c.ran + 1;
-    d
-}
-
-fn blocked_up(c: Counts) -> Counts
-    requires { ⌜ c .blocked < 65535 ⌝ }
-    ensures { λ r. ⌜ r ≡ blockedUp c ⌝ }
-{
-    let mut d = c;
-    d.blocked = c.blocked + 1;
-    d
-}
-
-fn larger(a: u16, b: u16) -> u16
-    ensures { λ r. ⌜ r ≡ max a b ⌝ }
-{
-    if a < b {
-        return b;
-    }
-    a
-}
-
-fn completions_up(response: u16, c: Counts) -> Counts
-    requires { ⌜ c .completions < 65535 ⌝ }
-    ensures { λ r. ⌜ r ≡ completionsUp response c ⌝ }
-{
-    let mut d = c;
-    d.completions = c.completions + 1;
-    d.worst = larger(c.worst, response);
-    d
-}
+ghost use Rattle.record.specs.Room.{CountsBelow, AllBelow};
+ghost use Rattle.effect.specs.Effect.{runnerNamed, Rests, Quiet, eachBlocked};
 
 // Rule 1: whether a task, whatever its steps, has a release at t.
 fn releases_at(t: u16, e: Entry) -> bool
@@ -108,18 +53,13 @@ fn released(s: &[u8], e: Entry, t: u16, r: TaskRecord) -> TaskRecord
     ensures { λ q. ⌜ q ≡ released t (taskOf (now (s .entry)) e) r ⌝ }
 {
     let j = r.job;
-    let c = releases_up(r.counts);
+    let c = record::releases_up(r.counts);
     if j.pending {
-        let d = misses_up(c);
+        let d = record::misses_up(c);
         return TaskRecord { job: j, counts: d };
     }
     let left = full_at(s, e, 0);
-    let started = Job {
-        pending: true,
-        position: 0,
-        left: left,
-        release: t,
-    };
+    let started = record::standing(0, left, t);
     TaskRecord {
         job: started,
         counts: c,
@@ -274,12 +214,7 @@ fn advanced(s: &[u8], e: Entry, t: u16, r: TaskRecord) -> TaskRecord
     let p = past_locks(s, e, j.position as usize);
     let left = left_of_run(s, e, j, p);
     if 1 < left {
-        let going_on = Job {
-            pending: true,
-            position: p as u8,
-            left: left - 1,
-            release: j.release,
-        };
+        let going_on = record::moved_to(p as u8, left - 1, j);
         return TaskRecord {
             job: going_on,
             counts: c,
@@ -288,26 +223,16 @@ fn advanced(s: &[u8], e: Entry, t: u16, r: TaskRecord) -> TaskRecord
     let next = past_unlocks(s, e, p + 1);
     if next < e.count as usize {
         let f = full_at(s, e, next);
-        let further = Job {
-            pending: true,
-            position: next as u8,
-            left: f,
-            release: j.release,
-        };
+        let further = record::moved_to(next as u8, f, j);
         return TaskRecord {
             job: further,
             counts: c,
         };
     }
-    let d = completions_up(response(t, j.release), c);
-    let no_job = Job {
-        pending: false,
-        position: 0,
-        left: 0,
-        release: 0,
-    };
+    let d = record::completed(response(t, j.release), c);
+    let none = record::no_job();
     TaskRecord {
-        job: no_job,
+        job: none,
         counts: d,
     }
 }
@@ -321,7 +246,7 @@ fn ran(s: &[u8], e: Entry, t: u16, i: usize, r: TaskRecord) -> TaskRecord
 {
     let a = advanced(s, e, t, r);
     let j = a.job;
-    let c = ran_up(a.counts);
+    let c = record::ran_up(a.counts);
     TaskRecord { job: j, counts: c }
 }
 
@@ -337,7 +262,7 @@ fn blocked_above(x: usize, st: State) -> State
         let r = next.tasks[i];
         let j = r.job;
         if j.pending {
-            let c = blocked_up(r.counts);
+            let c = record::blocked_up(r.counts);
             next.tasks[i] = TaskRecord { job: j, counts: c };
         }
         i += 1;
@@ -350,7 +275,7 @@ pub fn after_runner(s: &[u8], table: Table, x: u8, st: State) -> State
     requires { ⌜ Tabled (now s) table ⌝ }
     requires { ⌜ AllBelow 65535 (st .tasks) ⌝ }
     requires { ⌜ st .t < 65535 ⌝ }
-    ensures { λ r. ⌜ r ≡ withTasks st (afterRunner (runnerOf x) (sheetOf (now (s .entry)) table) (st .t) (st .tasks)) ⌝ }
+    ensures { λ r. ⌜ r ≡ withTasks st (afterRunner (runnerNamed x) (sheetOf (now (s .entry)) table) (st .t) (st .tasks)) ⌝ }
 {
     if 16 <= x {
         return st;

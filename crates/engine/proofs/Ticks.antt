@@ -11,34 +11,38 @@ use borrow.Author.Tests.{lt-ltb}
 use Rattle.rules.specs.Words.{row}
 use Rattle.rules.specs.Sheet.{Task, Sheet, taskAt}
 use Rattle.rules.specs.Reading.{read, readSheet}
-use Rattle.rules.specs.Record.{start, recordAt, possible}
+use Rattle.rules.specs.Fields.{start, withTasks}
+use Rattle.rules.specs.Record.{recordAt, possible}
 use Rattle.rules.specs.Choice.{Runner, job, runnerByte, runner}
-use Rattle.rules.specs.Tick.{afterReleases, afterRunner, closed, tick}
+use Rattle.rules.specs.Tick.{afterReleases, afterRunner, closed, runnerOf, tick}
 use Rattle.rules.specs.Run.{after, trace, written}
 use Rattle.rules.specs.declared.TaskRecord.{TaskRecord}
 use Rattle.rules.specs.declared.State.{State}
 use Rattle.rules.proofs.Laws.{length-row}
 use Rattle.rules.proofs.Possible.{Possible, possible-parts}
 use Rattle.rules.proofs.Walk.{runner-runs}
-use Rattle.rules.proofs.Kept.{startPossible, released-rising, after-time, after-possible}
+use Rattle.rules.proofs.Kept.{startPossible, risen, released-rising, after-time, after-possible}
 use Rattle.holders.specs.Holders.{holders, afterTick}
 use Rattle.choice.specs.Choosable.{Choosable}
 use Rattle.choice.proofs.Moves.{choosable as choosable-released, holders-released, holders-still, holders-ticked}
-use Rattle.effect.specs.Effect.{withTasks, runnerOf, AllBelow, Quiet}
+use Rattle.record.specs.Room.{AllBelow}
+use Rattle.effect.specs.Effect.{runnerNamed, Quiet}
 use Rattle.effect.proofs.Laws.{byte-back}
 
 -- the byte of the runner names it, and its tick is that of the rules
 module _ (sheet : Sheet) (st a : State) (x : ℕ) (ea : a ≡ withTasks st (afterReleases sheet st)) (ex : x ≡ runnerByte (runner sheet (a .tasks))) where
-  pub byte-of : x ≡ runnerByte (runner sheet (afterReleases sheet st))
+  pub byte-of : x ≡ runnerByte (runnerOf sheet st)
+  unfolding runnerOf
   byte-of = ex ∙ ap (λ (y : State). runnerByte (runner sheet (y .tasks))) ea
 
-  pub runner-of : runnerOf x ≡ runner sheet (afterReleases sheet st)
-  runner-of = ap runnerOf byte-of ∙ byte-back (runner sheet (afterReleases sheet st)) (λ k z. runner-runs sheet (afterReleases sheet st) k z .rank)
+  pub runner-of : runnerNamed x ≡ runner sheet (afterReleases sheet st)
+  unfolding runnerOf
+  runner-of = ap runnerNamed byte-of ∙ byte-back (runner sheet (afterReleases sheet st)) (λ k z. runner-runs sheet (afterReleases sheet st) k z .rank)
 
 pub ran-parts : (sheet : Sheet) (st a b : State) (x : ℕ) → a ≡ withTasks st (afterReleases sheet st) → x ≡ runnerByte (runner sheet (a .tasks))
-    → b ≡ withTasks a (afterRunner (runnerOf x) sheet (a .t) (a .tasks)) → b ≡ withTasks st (afterRunner (runner sheet (afterReleases sheet st)) sheet (st .t) (afterReleases sheet st))
+    → b ≡ withTasks a (afterRunner (runnerNamed x) sheet (a .t) (a .tasks)) → b ≡ withTasks st (afterRunner (runner sheet (afterReleases sheet st)) sheet (st .t) (afterReleases sheet st))
 ran-parts sheet st a b x ea ex eb =
-    eb ∙ ap (λ (y : State). withTasks y (afterRunner (runnerOf x) sheet (y .t) (y .tasks))) ea
+    eb ∙ ap (λ (y : State). withTasks y (afterRunner (runnerNamed x) sheet (y .t) (y .tasks))) ea
     ∙ ap (λ (y : Runner). withTasks st (afterRunner y sheet (st .t) (afterReleases sheet st))) (runner-of sheet st a x ea ex)
 
 -- a possible state has room to count on, before the releases and after them, and leaves the choice nothing open
@@ -47,15 +51,7 @@ module _ (bytes : List ℕ) (sheet : Sheet) (e : readSheet bytes ≡ read sheet)
   parts = possible-parts sheet st p
 
   pub room : AllBelow 65535 (st .tasks)
-  room i l =
-      let f = parts .counts i l in
-      record {
-        releases = omega (arith, f .releases);
-        completions = omega (arith, f .completions);
-        misses = omega (arith, f .misses);
-        ran = omega (arith, f .ran);
-        blocked = omega (arith, f .blocked);
-      }
+  room i l k = omega (arith, parts .counts i l k)
 
   pub switches-room : st .switches < 65535
   switches-room = omega (arith, parts .switches)
@@ -66,14 +62,7 @@ module _ (bytes : List ℕ) (sheet : Sheet) (e : readSheet bytes ≡ read sheet)
 
     pub room-after : AllBelow 65535 (a .tasks)
     room-after i l =
-        let f = released-rising bytes sheet e st parts i l in
-        rw records record {
-          releases = omega (arith, f .releases);
-          completions = omega (arith, f .completions);
-          misses = omega (arith, f .misses);
-          ran = omega (arith, f .ran);
-          blocked = omega (arith, f .blocked);
-        }
+        rw records (λ k. omega (arith, risen (st .t) (recordAt (afterReleases sheet st) i .counts) (released-rising bytes sheet e st parts i l) k))
 
     pub choosable : Choosable sheet (a .tasks)
     choosable = subst (Choosable sheet) (sym records) (choosable-released bytes sheet e st parts)
@@ -85,7 +74,7 @@ module _ (bytes : List ℕ) (sheet : Sheet) (e : readSheet bytes ≡ read sheet)
     pub holders-kept : (hs : List ℕ) → hs ≡ holders sheet (st .tasks) → hs ≡ holders sheet (a .tasks)
     holders-kept hs eh = eh ∙ sym (holders-released sheet st) ∙ ap (holders sheet) (sym records)
 
-    module _ (x : ℕ) (ex : x ≡ runnerByte (runner sheet (a .tasks))) (b : State) (eb : b ≡ withTasks a (afterRunner (runnerOf x) sheet (a .t) (a .tasks)))
+    module _ (x : ℕ) (ex : x ≡ runnerByte (runner sheet (a .tasks))) (b : State) (eb : b ≡ withTasks a (afterRunner (runnerNamed x) sheet (a .t) (a .tasks)))
         (hs : List ℕ) (eh : hs ≡ holders sheet (st .tasks)) where
       abbrev next : List TaskRecord
       next = afterRunner (runner sheet (afterReleases sheet st)) sheet (st .t) (afterReleases sheet st)
@@ -95,7 +84,7 @@ module _ (bytes : List ℕ) (sheet : Sheet) (e : readSheet bytes ≡ read sheet)
 
       -- the holders, where nobody runs
       pub holders-nobody : 16 ≤ x → hs ≡ holders sheet (b .tasks)
-      unfolding runnerByte
+      unfolding runnerByte runnerOf
       holders-nobody h =
           holders-kept hs eh ∙ ap (holders sheet) records
           ∙ sym (holders-still bytes sheet e st parts (λ i z.
@@ -107,7 +96,7 @@ module _ (bytes : List ℕ) (sheet : Sheet) (e : readSheet bytes ≡ read sheet)
       -- and where a job runs
       pub holders-runner : x < 16 → (task : Task) → task ≡ taskAt sheet x → (held : List ℕ)
           → held ≡ afterTick x task (recordAt (a .tasks) x .job) (recordAt (b .tasks) x .job) hs → held ≡ holders sheet (b .tasks)
-      unfolding runnerOf
+      unfolding runnerNamed
       holders-runner h task et held ed =
           let who : runner sheet (afterReleases sheet st) ≡ job x = sym (runner-of sheet st a x ea ex) ∙ rw (lt-ltb x 16 h) refl in
           ed
@@ -120,21 +109,16 @@ module _ (bytes : List ℕ) (sheet : Sheet) (e : readSheet bytes ≡ read sheet)
 
 -- the parts of a tick are the tick
 pub tick-parts : (sheet : Sheet) (st a b r : State) (x : ℕ) → a ≡ withTasks st (afterReleases sheet st) → x ≡ runnerByte (runner sheet (a .tasks))
-    → b ≡ withTasks a (afterRunner (runnerOf x) sheet (a .t) (a .tasks)) → r ≡ closed b x (b .tasks) → r ≡ tick sheet st
-unfolding tick closed
+    → b ≡ withTasks a (afterRunner (runnerNamed x) sheet (a .t) (a .tasks)) → r ≡ closed b x (b .tasks) → r ≡ tick sheet st
+unfolding tick runnerOf closed
 tick-parts sheet st a b r x ea ex eb er =
     er ∙ ap (λ (y : State). closed y x (y .tasks)) (ran-parts sheet st a b x ea ex eb)
     ∙ ap (λ (y : ℕ). closed st y (afterRunner (runner sheet (afterReleases sheet st)) sheet (st .t) (afterReleases sheet st))) (byte-of sheet st a x ea ex)
 
--- what the end of a tick sets, and what it leaves
-module _ (b next : State) (x : ℕ) (e : next ≡ closed b x (b .tasks)) where
-  pub closed-last : x ≡ next .last
-  unfolding closed
-  closed-last = sym (ap (λ (y : State). y .last) e)
-
-  pub closed-tasks : b .tasks ≡ next .tasks
-  unfolding closed
-  closed-tasks = sym (ap (λ (y : State). y .tasks) e)
+-- the end of a tick leaves the records
+pub closed-tasks : (b next : State) (x : ℕ) → next ≡ closed b x (b .tasks) → b .tasks ≡ next .tasks
+unfolding closed
+closed-tasks b next x e = sym (ap (λ (y : State). y .tasks) e)
 
 -- no release before `due` is none from the next tick on
 pub quiet-on : (sheet : Sheet) (st next : State) (due : ℕ) → next ≡ tick sheet st → Quiet (st .t + 1) due sheet → Quiet (next .t) due sheet
@@ -151,15 +135,14 @@ unfolding written trace row
 written-none sheet buffer = refl
 
 -- and its byte in the trace
-pub written-more : (sheet : Sheet) (k : ℕ) (buffer bytes : List ℕ) (x : ℕ) → k < length buffer → bytes ≡ written k sheet start buffer → x ≡ after (k + 1) sheet start .last
-    → set bytes k x ≡ written (k + 1) sheet start buffer
+pub written-more : (sheet : Sheet) (k : ℕ) (buffer bytes : List ℕ) (x : ℕ) → k < length buffer → bytes ≡ written k sheet start buffer
+    → x ≡ runnerByte (runnerOf sheet (after k sheet start)) → set bytes k x ≡ written (k + 1) sheet start buffer
 unfolding written trace row
 written-more sheet k buffer bytes x l inv e =
-    let byte : ℕ = after (suc k) sheet start .last in
-    let e' : x ≡ byte = e ∙ ap (λ (n : ℕ). after n sheet start .last) (add-one k) in
+    let byte : ℕ = runnerByte (runnerOf sheet (after k sheet start)) in
     ap (λ (b : List ℕ). set b k x) (inv ∙ ap (λ (d : List ℕ). trace k sheet start ++ d) (drop-cons buffer k 0 l))
     ∙ set-at (trace k sheet start) (getD buffer k 0) (drop (suc k) buffer) x k (length-row k _)
-    ∙ ap (λ (y : ℕ). trace k sheet start ++ (y ∷ drop (suc k) buffer)) e'
+    ∙ ap (λ (y : ℕ). trace k sheet start ++ (y ∷ drop (suc k) buffer)) e
     ∙ sym (append-assoc (trace k sheet start) (byte ∷ []) (drop (suc k) buffer))
     ∙ ap (λ (n : ℕ). written n sheet start buffer) (sym (add-one k))
 

@@ -1,67 +1,40 @@
 // One tick of a possible state, and a whole run from the start.
-use rules::Counts;
-use rules::Job;
 use rules::State;
-use rules::TaskRecord;
 use table::Table;
 ghost use mathlib.Core.Path.{_≡_};
 ghost use mathlib.Core.Bool.{true};
 ghost use Prim.Native.Nat.{_<_, _≤_};
 ghost use lib.ListN.{length};
 ghost use Rattle.rules.specs.Words.{row};
-ghost use Rattle.rules.specs.Record.{blank, start, possible};
-ghost use Rattle.rules.specs.Choice.{ceiling};
-ghost use Rattle.rules.specs.Tick.{tick};
+ghost use Rattle.rules.specs.Fields.{start};
+ghost use Rattle.rules.specs.Record.{possible};
+ghost use Rattle.rules.specs.Choice.{ceiling, runnerByte};
+ghost use Rattle.rules.specs.Tick.{runnerOf, tick};
 ghost use Rattle.rules.specs.Run.{after, written};
 ghost use Rattle.table.specs.Table.{sheetOf, Tabled};
 
+// What one tick gives: who ran, and the next state.
+pub struct OneTick {
+    pub runner: u8,
+    pub state: State,
+}
+
 // One tick: the releases, the choice of the runner, and what is done with it.
-pub fn tick_of(s: &[u8], table: Table, cs: [u8; 16], st: State) -> State
+pub fn tick_of(s: &[u8], table: Table, cs: [u8; 16], st: State) -> OneTick
     requires { ⌜ Tabled (now s) table ⌝ }
     requires { ⌜ cs ≡ row 16 (ceiling (sheetOf (now s) table)) ⌝ }
     requires { ⌜ possible (sheetOf (now s) table) st ≡ true ⌝ }
     requires { ⌜ st .t < 60000 ⌝ }
-    ensures { λ r. ⌜ r ≡ tick (sheetOf (now (s .entry)) table) st ⌝ }
+    ensures { λ r. ⌜ r .runner ≡ runnerByte (runnerOf (sheetOf (now (s .entry)) table) st) ⌝ }
+    ensures { λ r. ⌜ r .state ≡ tick (sheetOf (now (s .entry)) table) st ⌝ }
 {
     let a = effect::after_releases(s, table, st);
     let x = choice::runner_of(s, table, cs, a);
     let b = effect::after_runner(s, table, x, a);
-    effect::closed(x, b)
-}
-
-fn blank_record() -> TaskRecord
-    ensures { λ r. ⌜ r ≡ blank ⌝ }
-{
-    let no_job = Job {
-        pending: false,
-        position: 0,
-        left: 0,
-        release: 0,
-    };
-    let no_counts = Counts {
-        releases: 0,
-        completions: 0,
-        misses: 0,
-        ran: 0,
-        blocked: 0,
-        worst: 0,
-    };
-    TaskRecord {
-        job: no_job,
-        counts: no_counts,
-    }
-}
-
-// At the start everything is zero, nobody is pending, and the last runner is 255.
-fn start_state() -> State
-    ensures { λ r. ⌜ r ≡ start ⌝ }
-{
-    let z = blank_record();
-    State {
-        t: 0,
-        switches: 0,
-        last: 255,
-        tasks: [z; 16],
+    let next = effect::closed(x, b);
+    OneTick {
+        runner: x,
+        state: next,
     }
 }
 
@@ -77,7 +50,7 @@ pub fn run_of(s: &[u8], table: Table, cs: [u8; 16], h: u16, trace: &mut [u8]) ->
     ensures { λ r. ⌜ now (trace .exit) ≡ written h (sheetOf (now (s .entry)) table) start (now (trace .entry)) ⌝ }
 {
     let end = h as usize;
-    let mut st = start_state();
+    let mut st = record::start();
     let mut hs = [255u8; 16];
     let mut due: u32 = 0;
     let mut k: usize = 0;

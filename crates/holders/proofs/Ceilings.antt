@@ -13,9 +13,8 @@ use Rattle.rules.specs.Words.{if_then_else_, _<?_, _=?_, any, smallest, row}
 use Rattle.rules.specs.Sheet.{Step, run, lock, unlock, Task, Sheet, noTask, taskAt, isLockOf}
 use Rattle.rules.specs.Choice.{locks, ceiling}
 use Rattle.rules.specs.Laws.{All, StepLimits}
-use Rattle.rules.proofs.Laws.{sure, length-row, row-at, smallest-found, smallest-le, smallest-is, smallest-none, Found, and-true, row-same}
+use Rattle.rules.proofs.Laws.{sure, length-row, row-at, smallest-found, smallest-le, smallest-is, smallest-none, Found, and-true, row-same, all-drop}
 use Rattle.rules.proofs.Limits.{acceptedWithinLimits}
-use Rattle.rules.proofs.Possible.{all-drop}
 use Rattle.table.specs.Table.{here, taskOf, entryOf, sheetOf, Tabled}
 use Rattle.table.specs.declared.Entry.{Entry}
 use Rattle.table.specs.declared.Table.{Table}

@@ -11,7 +11,8 @@ use lib.Seq.{take-nil, getD-set-same, getD-set-other, ext-getD}
 use borrow.Author.Tests.{lt-ltb, le-ltb, eq-eqb, ne-eqb, eqb-true, eqb-false}
 use Rattle.rules.specs.Words.{if_then_else_, _=?_, smallest, row, any, among}
 use Rattle.rules.specs.Sheet.{Step, run, lock, unlock, Sheet, noTask, taskAt, without, heldOnTop, held}
-use Rattle.rules.specs.Record.{blank, recordAt, behind, carries, holds}
+use Rattle.rules.specs.Fields.{blank}
+use Rattle.rules.specs.Record.{recordAt, behind, carries, holds}
 use Rattle.rules.specs.declared.TaskRecord.{TaskRecord}
 use Rattle.rules.proofs.Laws.{sure, below, length-row, row-at, smallest-found, smallest-there, smallest-le, smallest-none, row-same}
 use Rattle.table.specs.Table.{here, taskOf, noEntry, sheetOf}

@@ -1,40 +1,25 @@
 -- Laws of the tests on one record, each in the words of document 01's sentence.
 use Prim.Native.Nat.{ℕ, _+_, _≤_, _<_}
 use mathlib.Core.Path.{_≡_, refl, sym, ap, ap₂, _∙_}
-use mathlib.Core.Logic.{⊎-elim}
 use mathlib.Core.List.{List, [], _∷_}
 use mathlib.Core.Bool.{Bool, true, false, not, _&&_}
 use native.Mathlib.Omega.{arith}
 use lib.ListN.{getD, drop}
-use borrow.Author.Tests.{lt-ltb, le-ltb, le-leb, lt-leb, eq-eqb, ne-eqb, not-true, not-false, leb-true, leb-false}
-use Rattle.rules.specs.Words.{_≤?_, _=?_, _⇒_, within, all}
+use borrow.Author.Tests.{lt-ltb, le-ltb, le-leb, lt-leb, eq-eqb, ne-eqb, not-true, not-false}
+use Rattle.rules.specs.Words.{_≤?_, _=?_, _⇒_, within}
 use Rattle.rules.specs.Sheet.{Step, run, lock, unlock, Task, Sheet}
-use Rattle.rules.specs.Record.{blank, recordAt, ahead, place, counted, zeros, countsFit, runnerFits, zeroRecord, standsWell, jobFits, recordFits, noneHeldByTwo, possible}
+use Rattle.rules.specs.Fields.{blank, place, zeros, zeroRecord}
+use Rattle.rules.specs.Record.{recordAt, ahead, countsFit, runnerFits, standsWell, jobFits, recordFits, noneHeldByTwo, possible}
 use Rattle.rules.specs.declared.Job.{Job}
-use Rattle.rules.specs.declared.Counts.{Counts}
 use Rattle.rules.specs.declared.TaskRecord.{TaskRecord}
 use Rattle.rules.specs.declared.State.{State}
-use Rattle.rules.proofs.Laws.{sure, and-at, every-of, every-no, and-true}
-use Rattle.rules.proofs.Possible.{CountsFit, counts-fit}
+use Rattle.rules.proofs.Laws.{and-at, every-of, every-no}
 use Rattle.table.specs.Table.{here, taskOf, entryOf, sheetOf}
 use Rattle.table.specs.declared.Entry.{Entry}
 use Rattle.table.specs.declared.Table.{Table}
 use Rattle.table.specs.declared.Here.{Here}
 use Rattle.table.proofs.Laws.{task-at, tasks-count}
 use Rattle.possible.specs.Records.{recordsFit}
-
--- one count above t is too many
-pub too-many : {t : ℕ} {c : Counts} {x : ℕ} → (CountsFit t c → x ≤ t) → t < x → false ≡ countsFit t c
-too-many {t} {c} {x} bounded l = ⊎-elim
-    (λ e. absurd (omega (arith, bounded (counts-fit t c e))))
-    sym
-    (sure (countsFit t c))
-
--- where the others are at most t, the last decides
-pub few-counts : (t : ℕ) (c : Counts) → c .releases ≤ t → c .completions ≤ t → c .misses ≤ t → c .ran ≤ t → c .blocked ≤ t → (c .worst ≤? t) ≡ countsFit t c
-unfolding countsFit counted all
-few-counts t c e1 e2 e3 e4 e5 =
-    rw (le-leb _ _ e1, le-leb _ _ e2, le-leb _ _ e3, le-leb _ _ e4, le-leb _ _ e5) (sym (and-true (c .worst ≤? t)))
 
 -- the last runner
 module _ (n x : ℕ) where
@@ -50,48 +35,6 @@ module _ (n x : ℕ) where
     pub else-idle : (x ≡ 254 → ⊥) → (x =? 255) ≡ runnerFits n x
     unfolding runnerFits
     else-idle e = rw (le-ltb x n l, ne-eqb x 254 e) refl
-
--- position, left and release tick zero
-module _ (j : Job) where
-  pub placed : (j .position ≡ 0 → ⊥) → false ≡ zeros (place j)
-  unfolding zeros place all
-  placed n = rw (ne-eqb (j .position) 0 n) refl
-
-  module _ (p : j .position ≡ 0) where
-    pub ticks-left : (j .left ≡ 0 → ⊥) → false ≡ zeros (place j)
-    unfolding zeros place all
-    ticks-left n = rw (eq-eqb (j .position) 0 p, ne-eqb (j .left) 0 n) refl
-
-    pub else-released : j .left ≡ 0 → (j .release =? 0) ≡ zeros (place j)
-    unfolding zeros place all
-    else-released e = rw (eq-eqb (j .position) 0 p, eq-eqb (j .left) 0 e) (sym (and-true (j .release =? 0)))
-
--- a count that is at most 0 is zero
-all-same : {A : Type 0} (p q : A → Bool) → ((x : A) → p x ≡ q x) → (xs : List A) → all p xs ≡ all q xs
-unfolding all
-all-same p q h [] = refl
-all-same p q h (x ∷ xs) = ap₂ _&&_ (h x) (all-same p q h xs)
-
-at-most-0 : (x : ℕ) → (x ≤? 0) ≡ (x =? 0)
-at-most-0 x = ⊎-elim
-    (λ e. let l = leb-true x 0 e in rw (e, eq-eqb x 0 (omega arith)) refl)
-    (λ e. let l = leb-false x 0 e in rw (e, ne-eqb x 0 (λ z. omega arith)) refl)
-    (sure (x ≤? 0))
-
--- a zero record
-module _ (x : TaskRecord) where
-  pub pending-not-zero : x .job .pending ≡ true → false ≡ zeroRecord x
-  unfolding zeroRecord
-  pending-not-zero e = rw e refl
-
-  module _ (e : x .job .pending ≡ false) (a : Bool) (ea : a ≡ zeros (place (x .job))) where
-    pub place-not-zero : not a ≡ true → false ≡ zeroRecord x
-    unfolding zeroRecord zeros place all
-    place-not-zero h = rw (e, ← ea, not-true a h) refl
-
-    pub else-counts : not a ≡ false → (b : Bool) → b ≡ countsFit 0 (x .counts) → b ≡ zeroRecord x
-    unfolding zeroRecord countsFit zeros place all
-    else-counts h b eb = rw (e, ← ea, not-false a h) (eb ∙ all-same (λ x. x ≤? 0) (λ x. x =? 0) at-most-0 (counted (x .counts)))
 
 -- 1 to its full length
 module _ (full left : ℕ) where

@@ -9,7 +9,8 @@ use lib.ListN.{length, getD, take, replicate}
 use borrow.Author.Tests.{eq-eqb, ne-eqb, eqb-true, eqb-false, not-true, not-false}
 use Rattle.rules.specs.Words.{if_then_else_, _=?_, _⇒_, row, any, among}
 use Rattle.rules.specs.Sheet.{Step, Task, Sheet, taskAt, held}
-use Rattle.rules.specs.Record.{blank, recordAt, behind, carries, holds, noneHeldByTwo}
+use Rattle.rules.specs.Fields.{blank}
+use Rattle.rules.specs.Record.{recordAt, behind, carries, holds, noneHeldByTwo}
 use Rattle.rules.specs.declared.Job.{Job}
 use Rattle.rules.specs.declared.TaskRecord.{TaskRecord}
 use Rattle.rules.proofs.Laws.{sure, below, and-at, true-false, and-left, and-right, and-both, implied, implies-no, implies-yes, denied, every-same, every-at, every-of, not-every, every-no, row-at, smallest-le, smallest-there, smallest-none, row-same}

@@ -4,13 +4,12 @@ ghost use mathlib.Core.Path.{_≡_};
 ghost use Prim.Native.Nat.{_<_};
 ghost use lib.ListN.{drop};
 ghost use Rattle.rules.specs.Words.{within};
-ghost use Rattle.rules.specs.Record.{place, zeros, countsFit, runnerFits, zeroRecord, standsWell, jobFits, recordFits, noneHeldByTwo, possible};
+ghost use Rattle.rules.specs.Record.{runnerFits, standsWell, jobFits, recordFits, noneHeldByTwo, possible};
 ghost use Rattle.table.specs.Table.{taskOf, sheetOf, Lies, Tabled};
 ghost use Rattle.possible.specs.Records.{recordsFit};
 ghost use Rattle.possible.specs.Holding.{sameHolder, sameHolders, holdsAlone};
 use holders::after_steps;
 use holders::holders_of;
-use rules::Counts;
 use rules::Job;
 use rules::State;
 use rules::TaskRecord;
@@ -19,28 +18,6 @@ use table::Here;
 use table::Table;
 use table::entry_at;
 use table::step_at;
-
-// every count and worst response is at most t;
-fn counts_fit(t: u16, c: Counts) -> bool
-    ensures { λ r. ⌜ r ≡ countsFit t c ⌝ }
-{
-    if t < c.releases {
-        return false;
-    }
-    if t < c.completions {
-        return false;
-    }
-    if t < c.misses {
-        return false;
-    }
-    if t < c.ran {
-        return false;
-    }
-    if t < c.blocked {
-        return false;
-    }
-    c.worst <= t
-}
 
 // the last runner is a rank below n, 254 or 255;
 fn runner_fits(n: u8, x: u8) -> bool
@@ -53,34 +30,6 @@ fn runner_fits(n: u8, x: u8) -> bool
         return true;
     }
     x == 255
-}
-
-// position, left and release tick zero;
-fn zero_place(j: Job) -> bool
-    ensures { λ r. ⌜ r ≡ zeros (place j) ⌝ }
-{
-    if j.position != 0 {
-        return false;
-    }
-    if j.left != 0 {
-        return false;
-    }
-    j.release == 0
-}
-
-// records at n and above are zero;
-fn zero_record(x: TaskRecord) -> bool
-    ensures { λ r. ⌜ r ≡ zeroRecord x ⌝ }
-{
-    let j = x.job;
-    if j.pending {
-        return false;
-    }
-    if !zero_place(j) {
-        return false;
-    }
-    // a count that is at most 0 is zero
-    counts_fit(0, x.counts)
 }
 
 // 1 to its full length left;
@@ -113,7 +62,7 @@ fn job_fits(s: &[u8], e: Entry, t: u16, j: Job) -> bool
     ensures { λ r. ⌜ r ≡ jobFits t (taskOf (now (s .entry)) e) j ⌝ }
 {
     if !j.pending {
-        return zero_place(j);
+        return record::zero_place(j);
     }
     if t <= j.release {
         return false;
@@ -122,12 +71,12 @@ fn job_fits(s: &[u8], e: Entry, t: u16, j: Job) -> bool
     stands_well(s, e, position, j.left)
 }
 
-// The record of rank i: its counts and its job fit, and at n and above it is zero.
+// The record of rank i: every count and worst response is at most t, its job fits, and at n and above it is zero.
 fn record_fits(s: &[u8], table: Table, t: u16, i: usize, x: TaskRecord) -> bool
     requires { ⌜ Tabled (now s) table ⌝ }
     ensures { λ r. ⌜ r ≡ recordFits (sheetOf (now (s .entry)) table) t i x ⌝ }
 {
-    if !counts_fit(t, x.counts) {
+    if !record::counts_fit(t, x.counts) {
         return false;
     }
     let e = entry_at(table, i);
@@ -138,7 +87,7 @@ fn record_fits(s: &[u8], table: Table, t: u16, i: usize, x: TaskRecord) -> bool
     if i < n {
         return true;
     }
-    zero_record(x)
+    record::zero_record(x)
 }
 
 // The sixteen records.

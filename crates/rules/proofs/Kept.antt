@@ -10,31 +10,29 @@ use borrow.Author.Tests.{ltb-true, eqb-true}
 use Rattle.rules.specs.Words.{if_then_else_, _<?_, _=?_, any, among}
 use Rattle.rules.specs.Sheet.{Task, Sheet, taskAt, isLock, heldOnTop, held}
 use Rattle.rules.specs.Reading.{read, readSheet}
-use Rattle.rules.specs.Record.{noJob, noCounts, blank, start, recordAt, behind, ahead, carries, holds, possible}
+use Rattle.rules.specs.Fields.{Count, Releases, Completions, Misses, TicksRun, TicksBlocked, WorstResponse, count, up, noJob, blank, start}
+use Rattle.rules.specs.Record.{recordAt, behind, ahead, carries, holds, possible}
 use Rattle.rules.specs.Choice.{Runner, job, stuck, idle, runnerByte, locks, ceiling, atRun, fresh, goes, heldByOther, freeOfCeilings, mayGo, runner}
-use Rattle.rules.specs.Tick.{ranUp, released, afterReleases, advanced, spent, afterRunner, closed, tick}
+use Rattle.rules.specs.Tick.{released, afterReleases, completed, advanced, spent, afterRunner, closed, runnerOf, tick}
 use Rattle.rules.specs.Run.{after}
 use Rattle.rules.specs.Laws.{TaskLimits, StartPossible, TickPossible}
 use Rattle.rules.specs.declared.Job.{Job}
 use Rattle.rules.specs.declared.Counts.{Counts}
 use Rattle.rules.specs.declared.TaskRecord.{TaskRecord}
 use Rattle.rules.specs.declared.State.{State}
-use Rattle.rules.proofs.Laws.{sure, below, true-false, implies-yes, some-of, every-at, smallest-le}
+use Rattle.rules.proofs.Laws.{sure, below, true-false, if-cases, implies-yes, some-of, every-at, smallest-le}
 use Rattle.rules.proofs.Limits.{acceptedWithinLimits}
 use Rattle.rules.proofs.Walk.{Runs, runner-runs}
 use Rattle.rules.proofs.Tick.{released-cases, advanced-cases, spent-cases, released-at, past-at, spent-at}
-use Rattle.rules.proofs.Possible.{CountsFit, JobFits, RunnerFits, Possible, possible-parts, parts-possible}
+use Rattle.rules.proofs.Fields.{CountsFit, Within, set-within, blank-counts}
+use Rattle.rules.proofs.Possible.{JobFits, RunnerFits, Possible, possible-parts, parts-possible}
 use Rattle.rules.proofs.Steps.{NextRun, next-run, goes-on-well, begins-well, comes-well, takes, takes-no-run, takes-locks, advanced-carries}
 
--- a zero record fits at any tick: its counts,
-blank-counts : (t : ℕ) → CountsFit t noCounts
-blank-counts t = record { releases = omega arith; completions = omega arith; misses = omega arith; ran = omega arith; blocked = omega arith; worst = omega arith }
-
--- its job,
+-- no job fits at any tick,
 blank-job : (t : ℕ) (task : Task) → JobFits t task noJob
 blank-job t task = record { rests = λ e. refl; release = λ e. true-false false e refl; stands = λ e. true-false false e refl }
 
--- which holds nothing
+-- and holds nothing
 blank-holds : (task : Task) (s : ℕ) → carries task noJob s ≡ true → ⊥
 unfolding carries
 blank-holds task s e = true-false false e refl
@@ -54,59 +52,55 @@ startPossible bytes sheet e =
       single = λ i j s li lj ls hi hj. absurd (blank-holds (taskAt sheet i) s (subst (λ (r : TaskRecord). carries (taskAt sheet i) (r .job) s ≡ true) (at i li) hi));
     })
 
--- after the releases only releases and misses have risen
-pub record Rising (t : ℕ) (c : Counts) : Type 0 where
-  pub releases : c .releases ≤ t + 1
-  pub completions : c .completions ≤ t
-  pub misses : c .misses ≤ t + 1
-  pub ran : c .ran ≤ t
-  pub blocked : c .blocked ≤ t
-  pub worst : c .worst ≤ t
+-- rule 1 raises releases and misses; the rest of a tick raises the others
+abbrev atRelease : Count → Bool
+atRelease = elim [ Releases ↦ true | Completions ↦ false | Misses ↦ true | TicksRun ↦ false | TicksBlocked ↦ false | WorstResponse ↦ false ]
 
--- a count that stays, one that rises, and the worst response
-stays : {a t : ℕ} → a ≤ t → a ≤ t + 1
-stays h = omega arith
+-- so after the releases those two may have risen, and at the end of the tick all
+abbrev pub Rising : (t : ℕ) → Counts → Type 0
+Rising t c = Within (λ k. if atRelease k then t + 1 else t) c
 
-rises : {a t : ℕ} → a ≤ t → a + 1 ≤ t + 1
-rises h = omega arith
+rising : (t : ℕ) (c : Counts) → CountsFit t c → Rising t c
+rising t c f k = if-cases (λ (x : ℕ). count k c ≤ x) (atRelease k) (t + 1) t (λ e. omega (arith, f k)) (λ e. f k)
 
-worse : {a t : ℕ} (release : ℕ) → a ≤ t → max a (t + 1 - release) ≤ t + 1
-worse release h = omega arith
+pub risen : (t : ℕ) (c : Counts) → Rising t c → CountsFit (t + 1) c
+risen t c f k = if-cases (λ (x : ℕ). count k c ≤ x → count k c ≤ t + 1) (atRelease k) (t + 1) t (λ e l. l) (λ e l. omega arith) (f k)
 
 -- at a release
-risen : (t : ℕ) (c : Counts) (releases misses : ℕ) → CountsFit t c → releases ≤ t + 1 → misses ≤ t + 1
-    → Rising t (record { releases = releases; completions = c .completions; misses = misses; ran = c .ran; blocked = c .blocked; worst = c .worst })
-risen t c releases misses f r m = record { releases = r; completions = f .completions; misses = m; ran = f .ran; blocked = f .blocked; worst = f .worst }
+one-more : (limit : Count → ℕ) (c : Counts) (k : Count) → Within limit c → count k c + 1 ≤ limit k → Within limit (up k c)
+one-more limit c k f l = set-within limit c k (count k c + 1) f l
 
--- where there is none
-counts-wait : (t : ℕ) (c : Counts) → CountsFit t c → Rising t c
-counts-wait t c f = risen t c _ _ f (stays (f .releases)) (stays (f .misses))
-
--- so after the releases
 counts-released : (t : ℕ) (task : Task) (r : TaskRecord) → CountsFit t (r .counts) → Rising t (released t task r .counts)
-counts-released t task r f = released-cases (λ x. Rising t (x .counts)) t task r
-    (λ e. counts-wait t (r .counts) f)
-    (λ e p. risen t (r .counts) _ _ f (rises (f .releases)) (rises (f .misses)))
-    (λ e p. risen t (r .counts) _ _ f (rises (f .releases)) (stays (f .misses)))
+counts-released t task r f =
+    let limit : Count → ℕ = λ k. if atRelease k then t + 1 else t in
+    let c = r .counts in
+    let once = one-more limit c Releases (rising t c f) (omega (arith, f Releases)) in
+    released-cases (λ x. Rising t (x .counts)) t task r
+    (λ e. rising t c f)
+    (λ e p. one-more limit (up Releases c) Misses once (omega (arith, f Misses)))
+    (λ e p. once)
 
--- and then each other count rises at most once
-spending : (t : ℕ) (c : Counts) (completions ran blocked worst : ℕ) → Rising t c → completions ≤ t + 1 → ran ≤ t + 1 → blocked ≤ t + 1 → worst ≤ t + 1
-    → CountsFit (t + 1) (record { releases = c .releases; completions = completions; misses = c .misses; ran = ran; blocked = blocked; worst = worst })
-spending t c completions ran blocked worst f k r b w = record { releases = f .releases; completions = k; misses = f .misses; ran = r; blocked = b; worst = w }
+-- then the runner's,
+counts-advanced : (t : ℕ) (task : Task) (r : TaskRecord) → Rising t (r .counts) → CountsFit (t + 1) (up TicksRun (advanced t task r .counts))
+counts-advanced t task r f =
+    let limit : Count → ℕ = λ k. t + 1 in
+    let c = r .counts in
+    let on = risen t c f in
+    let ran : (c′ : Counts) → c′ .ran ≡ c .ran → CountsFit (t + 1) c′ → CountsFit (t + 1) (up TicksRun c′) =
+    λ c′ e g. one-more limit c′ TicksRun g (omega (arith, e, f TicksRun)) in
+    let done = one-more limit c Completions on (omega (arith, f Completions)) in
+    advanced-cases (λ x. CountsFit (t + 1) (up TicksRun (x .counts))) t task r
+    (λ l. ran c refl on)
+    (λ l h. ran c refl on)
+    (λ l h. ran (completed (t + 1 - r .job .release) c) refl
+    (set-within limit (up Completions c) WorstResponse (max (c .worst) (t + 1 - r .job .release)) done (omega (arith, f WorstResponse))))
 
--- those of the runner
-counts-advanced : (t : ℕ) (task : Task) (r : TaskRecord) → Rising t (r .counts) → CountsFit (t + 1) (ranUp (advanced t task r .counts))
-counts-advanced t task r f = advanced-cases (λ x. CountsFit (t + 1) (ranUp (x .counts))) t task r
-    (λ l. spending t (r .counts) _ _ _ _ f (stays (f .completions)) (rises (f .ran)) (stays (f .blocked)) (stays (f .worst)))
-    (λ l h. spending t (r .counts) _ _ _ _ f (stays (f .completions)) (rises (f .ran)) (stays (f .blocked)) (stays (f .worst)))
-    (λ l h. spending t (r .counts) _ _ _ _ f (rises (f .completions)) (rises (f .ran)) (stays (f .blocked)) (worse (r .job .release) (f .worst)))
-
--- those of every rank
+-- and those of every rank
 counts-spent : (x : Runner) (t i : ℕ) (task : Task) (r : TaskRecord) → Rising t (r .counts) → CountsFit (t + 1) (spent x t i task r .counts)
 counts-spent x t i task r f = spent-cases (λ y. CountsFit (t + 1) (y .counts)) x t i task r
     (λ e. counts-advanced t task r f)
-    (λ k e l p. spending t (r .counts) _ _ _ _ f (stays (f .completions)) (stays (f .ran)) (rises (f .blocked)) (stays (f .worst)))
-    (λ e p. spending t (r .counts) _ _ _ _ f (stays (f .completions)) (stays (f .ran)) (stays (f .blocked)) (stays (f .worst)))
+    (λ k e l p. one-more (λ k. t + 1) (r .counts) TicksBlocked (risen t (r .counts) f) (omega (arith, f TicksBlocked)))
+    (λ e p. risen t (r .counts) f)
 
 -- jobs: one that waits, one that starts, and the runner
 job-waits : (t : ℕ) (task : Task) (j : Job) → JobFits t task j → JobFits (t + 1) task j
@@ -189,7 +183,7 @@ module _ (bytes : List ℕ) (sheet : Sheet) (e : readSheet bytes ≡ read sheet)
   pub released-rising : (i : ℕ) → i < 16 → Rising (st .t) (recordAt rs i .counts)
   released-rising i l = each-released (λ r. Rising (st .t) (r .counts)) i l
       (λ u. counts-released (st .t) (taskAt sheet i) (recordAt (st .tasks) i) (π .counts i l))
-      (λ u. counts-wait (st .t) (recordAt (st .tasks) i .counts) (π .counts i l))
+      (λ u. rising (st .t) (recordAt (st .tasks) i .counts) (π .counts i l))
 
   -- jobs,
   pub released-fits : (i : ℕ) → i < 16 → JobFits (st .t + 1) (taskAt sheet i) (recordAt rs i .job)
@@ -273,7 +267,7 @@ module _ (bytes : List ℕ) (sheet : Sheet) (e : readSheet bytes ≡ read sheet)
 
   -- all parts together
   pub tick-parts : st .t < 60000 → Possible sheet (tick sheet st)
-  unfolding tick closed
+  unfolding tick runnerOf closed
   tick-parts early = record {
     time = omega arith;
     switches = switches-rise (runnerByte x =? st .last);

@@ -9,6 +9,7 @@ pub mod Points
 pub mod Numbers
 pub mod Tick
 pub mod Limits
+pub mod Fields
 pub mod Possible
 pub mod Steps
 pub mod Kept

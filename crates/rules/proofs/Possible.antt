@@ -1,32 +1,22 @@
 -- A possible state, part by part: from the test and back to it.
 use Prim.Native.Nat.{ℕ, zero, suc, _≤_, _<_}
-use mathlib.Core.Path.{_≡_, refl, sym, ap, ap₂, subst}
+use mathlib.Core.Path.{_≡_, refl, ap, ap₂}
 use mathlib.Core.Logic.{_⊎_, inl, inr, ⊎-elim}
 use mathlib.Core.List.{List, [], _∷_}
 use mathlib.Core.Bool.{Bool, true, false, not, _&&_, _||_}
 use native.Mathlib.Omega.{arith}
 use lib.ListN.{length, drop}
 use borrow.Author.Tests.{ltb-true, leb-true, eqb-true, lt-ltb, le-leb, eq-eqb, not-true}
-use Rattle.rules.specs.Words.{if_then_else_, _<?_, _≤?_, _=?_, _⇒_, within, every, all}
-use Rattle.rules.specs.Sheet.{Step, run, lock, unlock, Task, Sheet, taskAt}
-use Rattle.rules.specs.Reading.{read, readSheet}
-use Rattle.rules.specs.Record.{noJob, noCounts, blank, recordAt, ahead, holds, place, counted, zeros, countsFit, runnerFits, zeroRecord, standsWell, jobFits, recordFits, noneHeldByTwo, possible}
-use Rattle.rules.specs.Laws.{All, StepLimits, TaskLimits}
+use Rattle.rules.specs.Words.{if_then_else_, _<?_, _≤?_, _=?_, _⇒_, every, all}
+use Rattle.rules.specs.Sheet.{Step, Task, Sheet, taskAt}
+use Rattle.rules.specs.Fields.{noJob, blank, place, counted, zeros, zeroRecord}
+use Rattle.rules.specs.Record.{recordAt, ahead, holds, countsFit, runnerFits, standsWell, jobFits, recordFits, noneHeldByTwo, possible}
 use Rattle.rules.specs.declared.Job.{Job}
 use Rattle.rules.specs.declared.Counts.{Counts}
 use Rattle.rules.specs.declared.TaskRecord.{TaskRecord}
 use Rattle.rules.specs.declared.State.{State}
-use Rattle.rules.proofs.Limits.{acceptedWithinLimits}
+use Rattle.rules.proofs.Fields.{CountsFit, counts-fit, fit-counts, no-counts}
 use Rattle.rules.proofs.Laws.{sure, below, true-false, and-left, and-right, and-both, or-cases, or-right, implied, implies-yes, every-at, every-of}
-
--- every count and worst response is at most t
-pub record CountsFit (t : ℕ) (c : Counts) : Type 0 where
-  pub releases : c .releases ≤ t
-  pub completions : c .completions ≤ t
-  pub misses : c .misses ≤ t
-  pub ran : c .ran ≤ t
-  pub blocked : c .blocked ≤ t
-  pub worst : c .worst ≤ t
 
 -- a task not pending has position, left and release tick zero; a pending one has a release tick below t, and stands well
 pub record JobFits (t : ℕ) (task : Task) (j : Job) : Type 0 where
@@ -47,30 +37,6 @@ pub record Possible (sheet : Sheet) (st : State) : Type 0 where
   pub job : (i : ℕ) → i < 16 → JobFits (st .t) (taskAt sheet i) (recordAt (st .tasks) i .job)
   pub past : (i : ℕ) → i < 16 → length (sheet .tasks) ≤ i → recordAt (st .tasks) i ≡ blank
   pub single : (i j s : ℕ) → i < 16 → j < 16 → s < 16 → holds sheet (st .tasks) i s ≡ true → holds sheet (st .tasks) j s ≡ true → i ≡ j
-
--- the counts
-pub counts-fit : (t : ℕ) (c : Counts) → countsFit t c ≡ true → CountsFit t c
-unfolding countsFit counted all
-counts-fit t c e =
-    let past1 = and-right (c .releases ≤? t) _ e in
-    let past2 = and-right (c .completions ≤? t) _ past1 in
-    let past3 = and-right (c .misses ≤? t) _ past2 in
-    let past4 = and-right (c .ran ≤? t) _ past3 in
-    let past5 = and-right (c .blocked ≤? t) _ past4 in
-    record {
-      releases = leb-true (c .releases) t (and-left (c .releases ≤? t) _ e);
-      completions = leb-true (c .completions) t (and-left (c .completions ≤? t) _ past1);
-      misses = leb-true (c .misses) t (and-left (c .misses ≤? t) _ past2);
-      ran = leb-true (c .ran) t (and-left (c .ran ≤? t) _ past3);
-      blocked = leb-true (c .blocked) t (and-left (c .blocked ≤? t) _ past4);
-      worst = leb-true (c .worst) t (and-left (c .worst ≤? t) _ past5);
-    }
-
--- the counts, back
-pub fit-counts : (t : ℕ) (c : Counts) → CountsFit t c → countsFit t c ≡ true
-unfolding countsFit counted all
-fit-counts t c f =
-    rw (le-leb _ _ (f .releases), le-leb _ _ (f .completions), le-leb _ _ (f .misses), le-leb _ _ (f .ran), le-leb _ _ (f .blocked), le-leb _ _ (f .worst)) refl
 
 -- a job that is not pending and whose numbers are zero is no job
 rests : (j : Job) → j .pending ≡ false → zeros (place j) ≡ true → j ≡ noJob
@@ -111,27 +77,6 @@ fit-job t task j f = go (j .pending) refl
     go : (b : Bool) → j .pending ≡ b → (if b then j .release <? t && standsWell (ahead task j) (j .left) else zeros (place j)) ≡ true
     go true p = and-both _ _ (lt-ltb _ _ (f .release p)) (f .stands p)
     go false p = ap (λ (k : Job). zeros (place k)) (f .rests p)
-
--- a zero record
-no-counts : (c : Counts) → zeros (counted c) ≡ true → c ≡ noCounts
-unfolding zeros counted all
-no-counts c e =
-    let past1 = and-right (c .releases =? 0) _ e in
-    let past2 = and-right (c .completions =? 0) _ past1 in
-    let past3 = and-right (c .misses =? 0) _ past2 in
-    let past4 = and-right (c .ran =? 0) _ past3 in
-    let past5 = and-right (c .blocked =? 0) _ past4 in
-    same (c .releases) (c .completions) (c .misses) (c .ran) (c .blocked) (c .worst)
-    (eqb-true (c .releases) 0 (and-left (c .releases =? 0) _ e))
-    (eqb-true (c .completions) 0 (and-left (c .completions =? 0) _ past1))
-    (eqb-true (c .misses) 0 (and-left (c .misses =? 0) _ past2))
-    (eqb-true (c .ran) 0 (and-left (c .ran =? 0) _ past3))
-    (eqb-true (c .blocked) 0 (and-left (c .blocked =? 0) _ past4))
-    (eqb-true (c .worst) 0 (and-left (c .worst =? 0) _ past5))
-  where
-    same : (u v w x y z : ℕ) → u ≡ 0 → v ≡ 0 → w ≡ 0 → x ≡ 0 → y ≡ 0 → z ≡ 0
-        → record { releases = u; completions = v; misses = w; ran = x; blocked = y; worst = z } ≡ noCounts
-    same u v w x y z e1 e2 e3 e4 e5 e6 = rw (e1, e2, e3, e4, e5, e6) refl
 
 -- a zero record is blank
 pub is-blank : (r : TaskRecord) → zeroRecord r ≡ true → r ≡ blank
@@ -209,54 +154,10 @@ module _ (sheet : Sheet) (st : State) where
       (sure both)))) in
       rw (le-leb _ _ (f .time), le-leb _ _ (f .switches), last, rank, single) refl
 
--- a job that stands well stands inside its steps, and has no more than 1,000 ticks left
+-- a job that stands well stands inside its steps
 pub stands-inside : (k left : ℕ) (steps : List Step) → standsWell (drop k steps) left ≡ true → k < length steps
 unfolding standsWell
 stands-inside zero left [] e = true-false false e refl
 stands-inside (suc k) left [] e = true-false false e refl
 stands-inside zero left (x ∷ steps) e = omega arith
 stands-inside (suc k) left (x ∷ steps) e = omega (arith, stands-inside k left steps e)
-
--- what holds of every step holds of every step ahead
-pub all-drop : {A : Type 0} (P : A → Type 0) (k : ℕ) (xs : List A) → All P xs → All P (drop k xs)
-all-drop P zero xs h = h
-all-drop P (suc k) [] h = tt
-all-drop P (suc k) (x ∷ xs) h = all-drop P k xs (h .1)
-
--- where each step keeps its limits, so does what is left of one
-stands-left : (m left : ℕ) (steps : List Step) → All (StepLimits m) steps → standsWell steps left ≡ true → left ≤ 1000
-unfolding standsWell within
-stands-left m left [] h e = true-false false e refl
-stands-left m left (run n ∷ steps) h e = omega (arith, h .0 .1, leb-true left n (and-right (1 ≤? left) (left ≤? n) e))
-stands-left m left (lock s ∷ steps) h e = omega (arith, eqb-true left 0 e)
-stands-left m left (unlock s ∷ steps) h e = true-false false e refl
-
--- the numbers of a job that fits, pending or not
-pub record Ranges (t : ℕ) (j : Job) : Type 0 where
-  pub position : j .position < 64
-  pub left : j .left ≤ 1000
-  pub release : j .release ≤ t
-
--- a task with no job pending has zeros
-rests-inside : (t : ℕ) (j : Job) → j ≡ noJob → Ranges t j
-rests-inside t j e = subst (Ranges t) (sym e) (record { position = omega arith; left = omega arith; release = omega arith })
-
--- and a pending job stands inside its steps
-pub job-ranges : (m t : ℕ) (task : Task) (j : Job) → TaskLimits m task → JobFits t task j → Ranges t j
-unfolding ahead
-job-ranges m t task j τ f = ⊎-elim
-    (λ (p : j .pending ≡ true). record {
-      position = omega (arith, τ .stepsTo, stands-inside (j .position) (j .left) (task .steps) (f .stands p));
-      left = stands-left m (j .left) (ahead task j) (all-drop (StepLimits m) (j .position) (task .steps) (τ .steps)) (f .stands p);
-      release = omega (arith, f .release p);
-    })
-    (λ (p : j .pending ≡ false). rests-inside t j (f .rests p))
-    (sure (j .pending))
-
--- of each job of a possible state
-pub ranges : (bytes : List ℕ) (sheet : Sheet) → readSheet bytes ≡ read sheet
-    → (st : State) → Possible sheet st → (i : ℕ) → i < 16 → Ranges (st .t) (recordAt (st .tasks) i .job)
-ranges bytes sheet e st π i l = ⊎-elim
-    (λ (u : i < length (sheet .tasks)). job-ranges (sheet .semaphores) (st .t) (taskAt sheet i) (recordAt (st .tasks) i .job) (acceptedWithinLimits bytes sheet e .each i u) (π .job i l))
-    (λ (u : length (sheet .tasks) ≤ i). rests-inside (st .t) (recordAt (st .tasks) i .job) (ap (λ (r : TaskRecord). r .job) (π .past i l u)))
-    (below i (length (sheet .tasks)))

@@ -16,10 +16,9 @@ use Rattle.rules.specs.Tick.{nextRun, leftOfRun, behindUnlocks, advanced
 use Rattle.rules.specs.Laws.{All, StepLimits, TaskLimits}
 use Rattle.rules.specs.declared.Job.{Job}
 use Rattle.rules.specs.declared.TaskRecord.{TaskRecord}
-use Rattle.rules.proofs.Laws.{true-false, and-left, and-right, and-both, or-right, any-take, any-drop}
+use Rattle.rules.proofs.Laws.{true-false, and-left, and-right, and-both, or-right, any-take, any-drop, all-drop}
 use Rattle.rules.proofs.Choice.{among-without, held-locked}
 use Rattle.rules.proofs.Nesting.{nests, held-snoc, afterLock, nests-on}
-use Rattle.rules.proofs.Possible.{all-drop}
 use Rattle.rules.proofs.Tick.{advanced-cases}
 
 -- an either that is denied

@@ -8,19 +8,20 @@ use lib.ListN.{length, drop}
 use borrow.Author.Tests.{ltb-true, ltb-false, eqb-true, eqb-false, lt-ltb, le-ltb, not-true, not-false}
 use Rattle.rules.specs.Words.{_<?_, _=?_}
 use Rattle.rules.specs.Sheet.{Task, Sheet, taskAt}
-use Rattle.rules.specs.Record.{noJob, blank, recordAt}
+use Rattle.rules.specs.Fields.{Releases, Misses, TicksRun, TicksBlocked, up, standing, movedTo, noJob, withJob, withCounts, blank}
+use Rattle.rules.specs.Record.{recordAt}
 use Rattle.rules.specs.Choice.{Runner, job, stuck, idle, full}
-use Rattle.rules.specs.Tick.{standing, releasesUp, missesUp, ranUp, blockedUp, completionsUp, releasesAt, released, afterReleases, nextRun, leftOfRun, behindUnlocks, advanced, spent, afterRunner}
+use Rattle.rules.specs.Tick.{completed, releasesAt, released, afterReleases, nextRun, leftOfRun, behindUnlocks, advanced, spent, afterRunner}
 use Rattle.rules.specs.declared.TaskRecord.{TaskRecord}
 use Rattle.rules.specs.declared.State.{State}
 use Rattle.rules.proofs.Laws.{and-left, and-right, and-denied, if-cases, row-at}
 
 -- 1. a release that misses, and one that starts a job
 abbrev pub missed : TaskRecord → TaskRecord
-missed r = record { job = r .job; counts = missesUp (releasesUp (r .counts)) }
+missed r = withCounts (up Misses (up Releases (r .counts))) r
 
 abbrev pub begun : (t : ℕ) → Task → TaskRecord → TaskRecord
-begun t task r = record { job = standing 0 (full (task .steps)) t; counts = releasesUp (r .counts) }
+begun t task r = record { job = standing 0 (full (task .steps)) t; counts = up Releases (r .counts) }
 
 -- no release, a miss, or a start
 pub released-cases : (P : TaskRecord → Type 0) (t : ℕ) (task : Task) (r : TaskRecord)
@@ -36,19 +37,19 @@ released-cases P t task r none misses begins =
 
 -- 5. a job that goes on with its run, one that comes to its next step, and one that completes
 abbrev pub wentOn : Task → TaskRecord → TaskRecord
-wentOn task r = record { job = standing (nextRun task (r .job)) (leftOfRun task (r .job) - 1) (r .job .release); counts = r .counts }
+wentOn task r = withJob (movedTo (nextRun task (r .job)) (leftOfRun task (r .job) - 1) (r .job)) r
 
 abbrev pub cameTo : Task → TaskRecord → TaskRecord
-cameTo task r = record { job = standing (behindUnlocks task (r .job)) (full (drop (behindUnlocks task (r .job)) (task .steps))) (r .job .release); counts = r .counts }
+cameTo task r = withJob (movedTo (behindUnlocks task (r .job)) (full (drop (behindUnlocks task (r .job)) (task .steps))) (r .job)) r
 
-abbrev pub completed : (t : ℕ) → TaskRecord → TaskRecord
-completed t r = record { job = noJob; counts = completionsUp (t + 1 - r .job .release) (r .counts) }
+abbrev pub ended : (t : ℕ) → TaskRecord → TaskRecord
+ended t r = record { job = noJob; counts = completed (t + 1 - r .job .release) (r .counts) }
 
 -- each where rule 5 says so
 pub advanced-cases : (P : TaskRecord → Type 0) (t : ℕ) (task : Task) (r : TaskRecord)
     → (1 < leftOfRun task (r .job) → P (wentOn task r))
     → (leftOfRun task (r .job) ≤ 1 → behindUnlocks task (r .job) < length (task .steps) → P (cameTo task r))
-    → (leftOfRun task (r .job) ≤ 1 → length (task .steps) ≤ behindUnlocks task (r .job) → P (completed t r))
+    → (leftOfRun task (r .job) ≤ 1 → length (task .steps) ≤ behindUnlocks task (r .job) → P (ended t r))
     → P (advanced t task r)
 unfolding advanced
 advanced-cases P t task r goesOn comes completes =
@@ -63,10 +64,10 @@ advanced-cases P t task r goesOn comes completes =
 
 -- 6. the runner, and a job that is blocked
 abbrev pub hasRun : (t : ℕ) → Task → TaskRecord → TaskRecord
-hasRun t task r = record { job = advanced t task r .job; counts = ranUp (advanced t task r .counts) }
+hasRun t task r = withCounts (up TicksRun (advanced t task r .counts)) (advanced t task r)
 
 abbrev pub wasBlocked : TaskRecord → TaskRecord
-wasBlocked r = record { job = r .job; counts = blockedUp (r .counts) }
+wasBlocked r = withCounts (up TicksBlocked (r .counts)) r
 
 -- (nobody who is stuck or idle runs)
 stuck-runs : {A : Type 0} (k : ℕ) → stuck ≡ job k → A

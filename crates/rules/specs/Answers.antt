@@ -6,10 +6,11 @@ use lib.ListN.{length, replicate}
 use lib.IntN.{ℤ, pos, negsuc}
 use Rattle.rules.specs.Words.{if_then_else_, _<?_, _=?_, row}
 use Rattle.rules.specs.Sheet.{Sheet}
-use Rattle.rules.specs.Reading.{Reading, read, refused, refusal, refuse_when_, refuse_of_at_when_, _>>=_, _>>_, readSheet}
-use Rattle.rules.specs.Record.{blank, start, possible}
-use Rattle.rules.specs.Choice.{ceiling}
-use Rattle.rules.specs.Tick.{tick}
+use Rattle.rules.specs.Reading.{Reading, read, refused, refusal, refuse_when_, _>>=_, _>>_, readSheet}
+use Rattle.rules.specs.Fields.{noState, start}
+use Rattle.rules.specs.Record.{possible}
+use Rattle.rules.specs.Choice.{ceiling, runnerByte}
+use Rattle.rules.specs.Tick.{runnerOf, tick}
 use Rattle.rules.specs.Run.{after, written}
 use Rattle.rules.specs.Bounds.{bound, laxity}
 use Rattle.rules.specs.declared.State.{State}
@@ -81,7 +82,7 @@ readTick bytes st = do
 unfoldable pub told : (bytes : List ℕ) → State → Told
 told bytes st =
     let r = readTick bytes st in
-    record { refusal = why r; runner = made r 0 λ sheet. tick sheet st .last }
+    record { refusal = why r; runner = made r 0 λ sheet. runnerByte (runnerOf sheet st) }
 
 unfoldable pub recordAfter : (bytes : List ℕ) → State → State
 recordAfter bytes st = made (readTick bytes st) st λ sheet. tick sheet st
@@ -98,9 +99,6 @@ readRun bytes horizon buffer = do
   refuse 14 when 60000 <? horizon
   refuse 15 when length buffer <? horizon
   read sheet
-
-abbrev pub noState : State
-noState = record { t = 0; switches = 0; last = 0; tasks = replicate 16 blank }
 
 unfoldable pub ran : (bytes : List ℕ) (horizon : ℕ) (buffer : List ℕ) → Ran
 ran bytes horizon buffer =

@@ -8,8 +8,8 @@ use lib.IntN.{ℤ, pos, negsuc}
 use Rattle.rules.specs.Words.{row}
 use Rattle.rules.specs.Sheet.{Sheet}
 use Rattle.rules.specs.Reading.{Reading, read, refused, readSheet}
-use Rattle.rules.specs.Record.{blank, start, recordAt, counted, possible}
-use Rattle.rules.specs.Tick.{standing}
+use Rattle.rules.specs.Fields.{Releases, TicksRun, up, standing, noCounts, counted, blank, start}
+use Rattle.rules.specs.Record.{recordAt, possible}
 use Rattle.rules.specs.Laws.{All}
 use Rattle.rules.specs.Run.{after, trace}
 use Rattle.rules.specs.Bounds.{bound, laxity}
@@ -157,7 +157,7 @@ D2 = record {
 abbrev pub atSecondLock : TaskRecord
 atSecondLock = record {
   job = standing 2 0 0;
-  counts = record { releases = 1; completions = 0; misses = 0; ran = 1; blocked = 0; worst = 0 };
+  counts = up TicksRun (up Releases noCounts);
 }
 
 abbrev pub E : Case

@@ -10,7 +10,8 @@ use lib.Signed.{nonNeg}
 use Rattle.rules.specs.Words.{_≤?_}
 use Rattle.rules.specs.Sheet.{Step, run, lock, unlock, Task, Sheet, taskAt, Body, held}
 use Rattle.rules.specs.Reading.{read, misplaced, readSheet}
-use Rattle.rules.specs.Record.{start, possible}
+use Rattle.rules.specs.Fields.{start}
+use Rattle.rules.specs.Record.{possible}
 use Rattle.rules.specs.Choice.{Runner, Walks, topJob, runner}
 use Rattle.rules.specs.Tick.{tick}
 use Rattle.rules.specs.Bounds.{demand, laxity}

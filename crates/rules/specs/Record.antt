@@ -1,27 +1,15 @@
 -- THE RECORD OF A RUN.
 use Prim.Native.Nat.{ℕ}
 use mathlib.Core.List.{List, [], _∷_}
-use mathlib.Core.Bool.{Bool, false, not, _&&_, _||_}
-use lib.ListN.{length, getD, take, drop, replicate}
+use mathlib.Core.Bool.{Bool, false, _&&_, _||_}
+use lib.ListN.{length, getD, take, drop}
 use Rattle.rules.specs.Words.{if_then_else_, _<?_, _≤?_, _=?_, _⇒_, within, every, all, among}
 use Rattle.rules.specs.Sheet.{Step, run, lock, unlock, Task, Sheet, taskAt, held}
+use Rattle.rules.specs.Fields.{blank, place, counted, zeros, zeroRecord}
 use Rattle.rules.specs.declared.Job.{Job}
 use Rattle.rules.specs.declared.Counts.{Counts}
 use Rattle.rules.specs.declared.TaskRecord.{TaskRecord}
 use Rattle.rules.specs.declared.State.{State}
-
--- At the start everything is zero, nobody is pending, and the last runner is 255.
-abbrev pub noJob : Job
-noJob = record { pending = false; position = 0; left = 0; release = 0 }
-
-abbrev pub noCounts : Counts
-noCounts = record { releases = 0; completions = 0; misses = 0; ran = 0; blocked = 0; worst = 0 }
-
-abbrev pub blank : TaskRecord
-blank = record { job = noJob; counts = noCounts }
-
-abbrev pub start : State
-start = record { t = 0; switches = 0; last = 255; tasks = replicate 16 blank }
 
 -- The record of a rank.
 unfoldable pub recordAt : List TaskRecord → (i : ℕ) → TaskRecord
@@ -41,16 +29,6 @@ carries task j s = j .pending && among s (held (behind task j))
 unfoldable pub holds : Sheet → List TaskRecord → (i s : ℕ) → Bool
 holds sheet records i s = carries (taskAt sheet i) (recordAt records i .job) s
 
--- The numbers of a job, and the counts with the worst response.
-unfoldable pub place : Job → List ℕ
-place j = j .position ∷ j .left ∷ j .release ∷ []
-
-unfoldable pub counted : Counts → List ℕ
-counted c = c .releases ∷ c .completions ∷ c .misses ∷ c .ran ∷ c .blocked ∷ c .worst ∷ []
-
-unfoldable pub zeros : List ℕ → Bool
-zeros xs = all (λ x. x =? 0) xs
-
 -- every count and worst response is at most t;
 unfoldable pub countsFit : (t : ℕ) → Counts → Bool
 countsFit t c = all (λ x. x ≤? t) (counted c)
@@ -58,10 +36,6 @@ countsFit t c = all (λ x. x ≤? t) (counted c)
 -- the last runner is a rank below n, 254 or 255;
 unfoldable pub runnerFits : (n x : ℕ) → Bool
 runnerFits n x = x <? n || x =? 254 || x =? 255
-
--- records at n and above are zero;
-unfoldable pub zeroRecord : TaskRecord → Bool
-zeroRecord r = not (r .job .pending) && zeros (place (r .job)) && zeros (counted (r .counts))
 
 -- (a pending one) stands at a run with 1 to its full length left, or at a lock with 0 left;
 unfoldable pub standsWell : (ahead : List Step) (left : ℕ) → Bool
@@ -74,6 +48,7 @@ standsWell (unlock s ∷ steps) left = false
 unfoldable pub jobFits : (t : ℕ) → Task → Job → Bool
 jobFits t task j = if j .pending then j .release <? t && standsWell (ahead task j) (j .left) else zeros (place j)
 
+-- records at n and above are zero;
 unfoldable pub recordFits : Sheet → (t i : ℕ) → TaskRecord → Bool
 recordFits sheet t i r =
     countsFit t (r .counts)

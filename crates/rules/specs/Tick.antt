@@ -1,46 +1,17 @@
 -- ONE TICK: what it does with the runner, rules 1, 5, 6 and 7.
 use Prim.Native.Nat.{ℕ, _+_, _-_, _%_, max}
 use mathlib.Core.List.{List}
-use mathlib.Core.Bool.{Bool, true, not, _&&_}
+use mathlib.Core.Bool.{Bool, not, _&&_}
 use lib.ListN.{length, drop}
 use Rattle.rules.specs.Words.{if_then_else_, _<?_, _≤?_, _=?_, row, leading}
 use Rattle.rules.specs.Sheet.{Task, Sheet, taskAt, isLock, isUnlock}
-use Rattle.rules.specs.Record.{noJob, recordAt, ahead}
+use Rattle.rules.specs.Fields.{Releases, Completions, Misses, TicksRun, TicksBlocked, WorstResponse, withCount, up, standing, movedTo, noJob, withJob, withCounts}
+use Rattle.rules.specs.Record.{recordAt, ahead}
 use Rattle.rules.specs.Choice.{Runner, job, stuck, idle, runnerByte, full, runner}
 use Rattle.rules.specs.declared.Job.{Job}
 use Rattle.rules.specs.declared.Counts.{Counts}
 use Rattle.rules.specs.declared.TaskRecord.{TaskRecord}
 use Rattle.rules.specs.declared.State.{State}
-
--- A job that stands at a step; a record with another job, or with other counts.
-abbrev pub standing : (position left release : ℕ) → Job
-standing position left release = record { pending = true; position = position; left = left; release = release }
-
-abbrev pub withJob : Job → TaskRecord → TaskRecord
-withJob j r = record { job = j; counts = r .counts }
-
-abbrev pub withCounts : Counts → TaskRecord → TaskRecord
-withCounts c r = record { job = r .job; counts = c }
-
--- Releases, misses, ticks run, ticks blocked rise by one.
-abbrev pub counts : (releases completions misses ran blocked worst : ℕ) → Counts
-counts a b c d e f = record { releases = a; completions = b; misses = c; ran = d; blocked = e; worst = f }
-
-abbrev pub releasesUp : Counts → Counts
-releasesUp c = counts (c .releases + 1) (c .completions) (c .misses) (c .ran) (c .blocked) (c .worst)
-
-abbrev pub missesUp : Counts → Counts
-missesUp c = counts (c .releases) (c .completions) (c .misses + 1) (c .ran) (c .blocked) (c .worst)
-
-abbrev pub ranUp : Counts → Counts
-ranUp c = counts (c .releases) (c .completions) (c .misses) (c .ran + 1) (c .blocked) (c .worst)
-
-abbrev pub blockedUp : Counts → Counts
-blockedUp c = counts (c .releases) (c .completions) (c .misses) (c .ran) (c .blocked + 1) (c .worst)
-
--- Completions rise by one, the worst response is the larger of old and new.
-abbrev pub completionsUp : (response : ℕ) → Counts → Counts
-completionsUp response c = counts (c .releases) (c .completions + 1) (c .misses) (c .ran) (c .blocked) (max (c .worst) response)
 
 -- 1. Task i has a release at t when t is at least its offset and t minus offset is a multiple of the period.
 unfoldable pub releasesAt : (t : ℕ) → Task → Bool
@@ -51,8 +22,8 @@ releasesAt t task = task .offset ≤? t && (t - task .offset) % task .period =? 
 unfoldable pub released : (t : ℕ) → Task → TaskRecord → TaskRecord
 released t task r =
     if not (releasesAt t task) then r else
-    if r .job .pending then withCounts (missesUp (releasesUp (r .counts))) r else
-    record { job = standing 0 (full (task .steps)) t; counts = releasesUp (r .counts) }
+    if r .job .pending then withCounts (up Misses (up Releases (r .counts))) r else
+    record { job = standing 0 (full (task .steps)) t; counts = up Releases (r .counts) }
 
 unfoldable pub afterReleases : Sheet → State → List TaskRecord
 afterReleases sheet st = row 16 λ i.
@@ -71,23 +42,26 @@ leftOfRun task j = if nextRun task j =? j .position then j .left else full (drop
 unfoldable pub behindUnlocks : Task → Job → ℕ
 behindUnlocks task j = nextRun task j + 1 + leading isUnlock (drop (nextRun task j + 1) (task .steps))
 
--- At the end of its steps it completes: completions rise by one, the response is t + 1 minus its release tick, the worst
--- response is the larger of old and new, and the task is no longer pending, with position, left and release tick zero.
+-- At the end of its steps it completes: completions rise by one, the worst response is the larger of old and new,
+abbrev pub completed : (response : ℕ) → Counts → Counts
+completed response c = withCount WorstResponse (max (c .worst) response) (up Completions c)
+
+-- the response is t + 1 minus its release tick, and the task is no longer pending, with position, left and release tick zero.
 -- Otherwise it stands at its next step, with a run's full length left or, at a lock, 0.
 unfoldable pub advanced : (t : ℕ) → Task → TaskRecord → TaskRecord
 advanced t task r =
     let j = r .job in
     let next = behindUnlocks task j in
-    if 1 <? leftOfRun task j then withJob (standing (nextRun task j) (leftOfRun task j - 1) (j .release)) r else
-    if next <? length (task .steps) then withJob (standing next (full (drop next (task .steps))) (j .release)) r else
-    record { job = noJob; counts = completionsUp (t + 1 - j .release) (r .counts) }
+    if 1 <? leftOfRun task j then withJob (movedTo (nextRun task j) (leftOfRun task j - 1) j) r else
+    if next <? length (task .steps) then withJob (movedTo next (full (drop next (task .steps))) j) r else
+    record { job = noJob; counts = completed (t + 1 - j .release) (r .counts) }
 
 -- 6. Its ticks run rise by one. Each pending job of smaller rank than a running job is blocked for this tick.
 unfoldable pub spent : Runner → (t i : ℕ) → Task → TaskRecord → TaskRecord
 spent (job x) t i task r =
     let ran = advanced t task r in
-    if i =? x then withCounts (ranUp (ran .counts)) ran else
-    if i <? x && r .job .pending then withCounts (blockedUp (r .counts)) r else r
+    if i =? x then withCounts (up TicksRun (ran .counts)) ran else
+    if i <? x && r .job .pending then withCounts (up TicksBlocked (r .counts)) r else r
 spent stuck t i task r = r
 spent idle t i task r = r
 
@@ -100,9 +74,12 @@ closed st x records =
     let switches = if x =? st .last then st .switches else st .switches + 1 in
     record { t = st .t + 1; switches = switches; last = x; tasks = records }
 
+-- The runner of a tick: the choice, after its releases.
+unfoldable pub runnerOf : Sheet → State → Runner
+runnerOf sheet st = runner sheet (afterReleases sheet st)
+
 -- One tick: the releases, the choice of the runner, and what is done with it.
 unfoldable pub tick : Sheet → State → State
 tick sheet st =
-    let records = afterReleases sheet st in
-    let x = runner sheet records in
-    closed st (runnerByte x) (afterRunner x sheet (st .t) records)
+    let x = runnerOf sheet st in
+    closed st (runnerByte x) (afterRunner x sheet (st .t) (afterReleases sheet st))

@@ -10,8 +10,10 @@ use Rattle.rules.proofs.Laws.{below}
 use borrow.Author.Tests.{lt-ltb, le-ltb, eq-eqb, ne-eqb}
 use Rattle.rules.specs.Sheet.{Sheet}
 use Rattle.rules.specs.Reading.{read, refused, refusal, _>>=_, refuse_of_at_when_}
-use Rattle.rules.specs.Record.{start, possible}
-use Rattle.rules.specs.Tick.{tick}
+use Rattle.rules.specs.Fields.{start}
+use Rattle.rules.specs.Record.{possible}
+use Rattle.rules.specs.Choice.{runnerByte}
+use Rattle.rules.specs.Tick.{runnerOf, tick}
 use Rattle.rules.specs.Run.{after, written}
 use Rattle.rules.specs.Answers.{why, made, readTick, told, recordAfter, ticked, readRun, ran, bufferAfter}
 use Rattle.rules.proofs.Possible.{possible-parts}
@@ -59,10 +61,11 @@ module _ (bytes : List ℕ) (p : Parsed) (st : State) (π : ParsedFrom bytes p) 
       unfolding readTick _>>=_ refuse_of_at_when_
       tick-read l = rw (π .tabled z .reads, ← e, t, ne-eqb (st .t) 60000 l) refl
 
-      pub tick-made : (st .t ≡ 60000 → ⊥) → (next : State) → next ≡ tick (sheetOf bytes (p .table)) st
-          → record { told = record { refusal = p .refusal; runner = next .last }; state = next } ≡ ticked bytes st
+      pub tick-made : (st .t ≡ 60000 → ⊥) → (x : ℕ) (next : State)
+          → x ≡ runnerByte (runnerOf (sheetOf bytes (p .table)) st) → next ≡ tick (sheetOf bytes (p .table)) st
+          → record { told = record { refusal = p .refusal; runner = x }; state = next } ≡ ticked bytes st
       unfolding ticked told recordAfter why made
-      tick-made l next u = rw (u, zero-refusal bytes p π z, tick-read l) refl
+      tick-made l x next v u = rw (v, u, zero-refusal bytes p π z, tick-read l) refl
 
 -- a call with a horizon
 module _ (bytes : List ℕ) (p : Parsed) (h : ℕ) (buffer : List ℕ) (π : ParsedFrom bytes p) where

@@ -1,26 +1,30 @@
-// THE PUBLIC FACE: every call, for any input, with no `requires`. What each answers stands in crates/rules/specs/Answers.antt;
-// a refused call gives its number, rank and step, and leaves what was lent as it was.
+// THE PUBLIC FACE: every call, for any input, with no `requires`. The contract of each is one definition of
+// crates/rules/specs/Contracts.antt, which the theorems cite too; a refused call gives its number, rank and step, and leaves what was lent as it was.
 ghost use mathlib.Core.Path.{_≡_};
 ghost use Rattle.rules.specs.Reading.{refusal};
 ghost use Rattle.simulator.specs.Refused.{notTicked, notRun};
-ghost use Rattle.rules.specs.Answers.{check, ceilings, bounds, laxities, ticked, told, recordAfter, ran, bufferAfter};
+ghost use Rattle.rules.specs.Contracts.{startContract, checkContract, ceilingsContract, boundsContract, laxitiesContract, tickContract, tickInPlaceContract, runContract};
 use rules::Bounds;
 use rules::Ceilings;
 use rules::Checked;
-use rules::Counts;
-use rules::Job;
 use rules::Laxities;
 use rules::Laxity;
 use rules::Ran;
 use rules::Refusal;
 use rules::State;
-use rules::TaskRecord;
 use rules::Ticked;
 use rules::Told;
 
+// The record of a run at its start, for calls of `tick`.
+pub fn start() -> State
+    ensures { λ r. ⌜ startContract r ⌝ }
+{
+    record::start()
+}
+
 // The sheet check: how many tasks and semaphores, and the mode.
 pub fn check(s: &[u8]) -> Checked
-    ensures { λ r. ⌜ r ≡ check (now (s .entry)) ⌝ }
+    ensures { λ r. ⌜ checkContract (now (s .entry)) r ⌝ }
 {
     let p = sheet::read_sheet(s);
     let refusal = p.refusal;
@@ -35,7 +39,7 @@ pub fn check(s: &[u8]) -> Checked
 
 // The ceiling of each semaphore.
 pub fn ceilings(s: &[u8]) -> Ceilings
-    ensures { λ r. ⌜ r ≡ ceilings (now (s .entry)) ⌝ }
+    ensures { λ r. ⌜ ceilingsContract (now (s .entry)) r ⌝ }
 {
     let p = sheet::read_sheet(s);
     let refusal = p.refusal;
@@ -55,7 +59,7 @@ pub fn ceilings(s: &[u8]) -> Ceilings
 
 // The bound of each task.
 pub fn bounds(s: &[u8]) -> Bounds
-    ensures { λ r. ⌜ r ≡ bounds (now (s .entry)) ⌝ }
+    ensures { λ r. ⌜ boundsContract (now (s .entry)) r ⌝ }
 {
     let p = sheet::read_sheet(s);
     let refusal = p.refusal;
@@ -76,7 +80,7 @@ pub fn bounds(s: &[u8]) -> Bounds
 
 // The laxity of each task.
 pub fn laxities(s: &[u8]) -> Laxities
-    ensures { λ r. ⌜ r ≡ laxities (now (s .entry)) ⌝ }
+    ensures { λ r. ⌜ laxitiesContract (now (s .entry)) r ⌝ }
 {
     let p = sheet::read_sheet(s);
     let refusal = p.refusal;
@@ -125,7 +129,7 @@ fn refusal_of(number: u8) -> Refusal
 
 // One tick of a state that is handed over by value.
 pub fn tick(s: &[u8], st: State) -> Ticked
-    ensures { λ r. ⌜ r ≡ ticked (now (s .entry)) st ⌝ }
+    ensures { λ r. ⌜ tickContract (now (s .entry)) st r ⌝ }
 {
     let p = sheet::read_sheet(s);
     let refusal = p.refusal;
@@ -140,11 +144,12 @@ pub fn tick(s: &[u8], st: State) -> Ticked
         return not_ticked(refusal_of(17), st);
     }
     let cs = holders::ceilings_of(s, table);
-    let next = engine::tick_of(s, table, cs, st);
+    let a = engine::tick_of(s, table, cs, st);
     let told = Told {
         refusal: refusal,
-        runner: next.last,
+        runner: a.runner,
     };
+    let next = a.state;
     Ticked {
         told: told,
         state: next,
@@ -153,7 +158,7 @@ pub fn tick(s: &[u8], st: State) -> Ticked
 
 // One tick of a record in the caller's memory.
 pub fn tick_in_place(s: &[u8], st: &mut State) -> Told
-    ensures { λ r. ⌜ (r ≡ told (now (s .entry)) (now (st .entry))) × (now (st .exit) ≡ recordAfter (now (s .entry)) (now (st .entry))) ⌝ }
+    ensures { λ r. ⌜ tickInPlaceContract (now (s .entry)) (now (st .entry)) r (now (st .exit)) ⌝ }
 {
     let a = tick(s, *st);
     *st = a.state;
@@ -164,30 +169,7 @@ pub fn tick_in_place(s: &[u8], st: &mut State) -> Told
 fn not_run(refusal: Refusal) -> Ran
     ensures { λ r. ⌜ r ≡ notRun refusal ⌝ }
 {
-    let no_job = Job {
-        pending: false,
-        position: 0,
-        left: 0,
-        release: 0,
-    };
-    let no_counts = Counts {
-        releases: 0,
-        completions: 0,
-        misses: 0,
-        ran: 0,
-        blocked: 0,
-        worst: 0,
-    };
-    let zero = TaskRecord {
-        job: no_job,
-        counts: no_counts,
-    };
-    let no_state = State {
-        t: 0,
-        switches: 0,
-        last: 0,
-        tasks: [zero; 16],
-    };
+    let no_state = record::no_state();
     Ran {
         refusal: refusal,
         state: no_state,
@@ -196,8 +178,7 @@ fn not_run(refusal: Refusal) -> Ran
 
 // A whole run from the start: one runner byte per tick into the first bytes of the trace; later bytes stay.
 pub fn run(s: &[u8], horizon: u16, trace: &mut [u8]) -> Ran
-    ensures { λ r. ⌜ r ≡ ran (now (s .entry)) horizon (now (trace .entry)) ⌝ }
-    ensures { λ r. ⌜ now (trace .exit) ≡ bufferAfter (now (s .entry)) horizon (now (trace .entry)) ⌝ }
+    ensures { λ r. ⌜ runContract (now (s .entry)) horizon (now (trace .entry)) r (now (trace .exit)) ⌝ }
 {
     let p = sheet::read_sheet(s);
     let refusal = p.refusal;

@@ -11,7 +11,8 @@ use lib.IntN.{pos}
 use Rattle.rules.specs.Words.{row}
 use Rattle.rules.specs.Sheet.{Sheet}
 use Rattle.rules.specs.Reading.{Reading, read, refused, refusal, word, _>>=_, refuse_of_at_when_, readSheet}
-use Rattle.rules.specs.Record.{start, recordAt}
+use Rattle.rules.specs.Fields.{start}
+use Rattle.rules.specs.Record.{recordAt}
 use Rattle.rules.specs.Run.{after, trace, written}
 use Rattle.rules.specs.Bounds.{bound, laxity}
 use Rattle.rules.specs.Answers.{why, made, byRank, check, bounds, signed, laxities, readRun, ran, bufferAfter}

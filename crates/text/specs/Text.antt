@@ -6,7 +6,8 @@ use mathlib.Core.List.{List, [], _∷_, _++_, flatMap}
 use lib.ListN.{length, take, drop, replicate}
 use Rattle.rules.specs.Words.{if_then_else_, _<?_, _=?_, row}
 use Rattle.rules.specs.Reading.{refusal, word}
-use Rattle.rules.specs.Record.{start, recordAt}
+use Rattle.rules.specs.Fields.{start}
+use Rattle.rules.specs.Record.{recordAt}
 use Rattle.rules.specs.Run.{after, trace}
 use Rattle.rules.specs.Bounds.{bound, laxity}
 use Rattle.rules.specs.Answers.{why, made, signed, readRun}

@@ -9,10 +9,12 @@ use borrow.Author.Tests.{ltb-false, eqb-false, ne-eqb, not-false}
 use Rattle.rules.specs.Words.{_<?_, _=?_}
 use Rattle.rules.specs.Sheet.{Sheet}
 use Rattle.rules.specs.Reading.{Reading, read, _>>=_, refuse_of_at_when_, readSheet}
-use Rattle.rules.specs.Record.{start, possible}
-use Rattle.rules.specs.Tick.{tick}
+use Rattle.rules.specs.Fields.{noState, start}
+use Rattle.rules.specs.Record.{possible}
+use Rattle.rules.specs.Choice.{runnerByte}
+use Rattle.rules.specs.Tick.{runnerOf, tick}
 use Rattle.rules.specs.Run.{after, written}
-use Rattle.rules.specs.Answers.{why, made, readTick, ticked, readRun, noState, ran, bufferAfter, told, recordAfter}
+use Rattle.rules.specs.Answers.{why, made, readTick, ticked, readRun, ran, bufferAfter, told, recordAfter}
 use Rattle.rules.specs.declared.State.{State}
 use Rattle.rules.proofs.Reading.{both-read, passed, got}
 use Rattle.theorems.specs.Refusals.{NotRefused}
@@ -28,7 +30,7 @@ pub record TickGoes (bytes : List ℕ) (st : State) (sheet : Sheet) : Type 0 whe
   pub accepted : Accepted bytes sheet
   pub fits : possible sheet st ≡ true
   pub early : st .t ≡ 60000 → ⊥
-  pub runner : ticked bytes st .told .runner ≡ tick sheet st .last
+  pub runner : ticked bytes st .told .runner ≡ runnerByte (runnerOf sheet st)
   pub state : ticked bytes st .state ≡ tick sheet st
 
 pub tick-goes : (bytes : List ℕ) (st : State) → NotRefused (ticked bytes st .told .refusal) → (sheet : Sheet) × TickGoes bytes st sheet
@@ -45,7 +47,7 @@ tick-goes bytes st z =
         accepted = one .1 ∙ ap read same;
         fits = ap (λ (x : Sheet). possible x st) (sym same) ∙ not-false (possible (one .0) st) (past16 .0);
         early = eqb-false (st .t) 60000 (past17 .0);
-        runner = ap (λ (x : Reading Sheet). made x 0 λ sheet. tick sheet st .last) (r .1);
+        runner = ap (λ (x : Reading Sheet). made x 0 λ sheet. runnerByte (runnerOf sheet st)) (r .1);
         state = ap (λ (x : Reading Sheet). made x st λ sheet. tick sheet st) (r .1);
       },
     )

@@ -10,9 +10,10 @@ use lib.Seq.{getD-take}
 use borrow.Author.Tests.{leb-true, lt-ltb, le-leb, ne-eqb}
 use Rattle.rules.specs.Words.{if_then_else_, _<?_, _≤?_, _=?_, _⇒_, among}
 use Rattle.rules.specs.Sheet.{Task, Sheet, noTask, taskAt}
-use Rattle.rules.specs.Record.{blank, start, recordAt, carries, holds}
+use Rattle.rules.specs.Fields.{blank, start}
+use Rattle.rules.specs.Record.{recordAt, carries, holds}
 use Rattle.rules.specs.Choice.{Runner, job, stuck, idle, locks, ceiling, goes, topJob, heldByOther, freeOfCeilings, mayGo, inTheWay, nextCandidate, walk, runner}
-use Rattle.rules.specs.Tick.{released, spent, afterReleases, afterRunner, closed, tick}
+use Rattle.rules.specs.Tick.{released, spent, afterReleases, afterRunner, closed, runnerOf, tick}
 use Rattle.rules.specs.Run.{after}
 use Rattle.rules.specs.Answers.{told, recordAfter, ticked}
 use Rattle.rules.specs.declared.TaskRecord.{TaskRecord}
@@ -226,7 +227,7 @@ module _ {k : ℕ} {a b : Sheet} (τ : Twin k a b) (st st′ : State) (α : Agre
       (below (topJob rs) k)
 
   tick-same : Agree k (tick a st) (tick b st′)
-  unfolding tick closed afterRunner recordAt
+  unfolding tick runnerOf closed afterRunner recordAt
   tick-same = record {
     time = ap (λ (t : ℕ). t + 1) (α .time);
     records = λ i l. row-at 16 _ blank i (omega (arith, τ .few)) ∙ spent-same i l ∙ sym (row-at 16 _ blank i (omega (arith, τ .few)));

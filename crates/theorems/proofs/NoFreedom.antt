@@ -1,26 +1,28 @@
 -- A contract that is an equality with a definition leaves no freedom.
 use Prim.Native.Nat.{ℕ}
 use mathlib.Core.Path.{_≡_, refl, sym, ap₂, _∙_, subst}
+use mathlib.Core.Logic.{inl}
 use mathlib.Core.List.{List}
 use native.Mathlib.Omega.{arith}
 use Rattle.rules.specs.Reading.{Reading, read, refused, readSheet}
 use Rattle.rules.specs.Answers.{why, made, signed, check, ceilings, bounds, laxities, readTick, ticked, told, recordAfter, readRun, ran, bufferAfter}
+use Rattle.rules.specs.Fields.{start}
 use Rattle.rules.specs.declared.State.{State}
 use Rattle.rules.specs.declared.Ran.{Ran}
 use Rattle.rules.specs.declared.Told.{Told}
 use Rattle.theorems.specs.Refusals.{Refused, Numbered}
-use Rattle.theorems.specs.NoFreedom.{Call, checkCall, ceilingsCall, boundsCall, laxitiesCall, tickCall, tickInPlaceCall, runCall, Settled, NoFreedom}
+use Rattle.theorems.specs.NoFreedom.{Call, startCall, checkCall, ceilingsCall, boundsCall, laxitiesCall, tickCall, tickInPlaceCall, runCall, Settled, NoFreedom}
 use Rattle.theorems.proofs.Refusals.{sheet-numbered, tick-numbered, run-numbered}
 
 -- the definition, that the contract permits it and nothing else, and what it says where it refuses
-record Defined (c : Call) : Type 0 where
+pub record Defined (c : Call) : Type 0 where
   value : c .Input → c .Outcome
   permitted : (input : c .Input) → c .permits input (value input)
   only : (input : c .Input) (outcome : c .Outcome) → c .permits input outcome → outcome ≡ value input
   numbered : (input : c .Input) → Numbered (c .refusal (value input))
   nothingElse : (input : c .Input) → Refused (c .refusal (value input)) → value input ≡ c .nothingBut input (c .refusal (value input))
 
-settled : (c : Call) → Defined c → Settled c
+pub settled : (c : Call) → Defined c → Settled c
 settled c δ = record {
   permitted = λ input. (δ .value input, δ .permitted input);
   noFreedom = λ input one other p q. δ .only input one p ∙ sym (δ .only input other q);
@@ -36,7 +38,16 @@ unfolding why
 refused-so (read a) l = absurd (omega arith)
 refused-so (refused x) l = refl
 
-checked : Defined checkCall
+starts : Defined startCall
+starts = record {
+  value = λ u. start;
+  permitted = λ u. refl;
+  only = λ u r e. e;
+  numbered = λ u. inl refl;
+  nothingElse = λ u l. absurd (omega arith);
+}
+
+pub checked : Defined checkCall
 unfolding check why made
 checked = record {
   value = check;
@@ -46,7 +57,7 @@ checked = record {
   nothingElse = λ bytes l. rw (refused-so (readSheet bytes) l) refl;
 }
 
-ceiled : Defined ceilingsCall
+pub ceiled : Defined ceilingsCall
 unfolding ceilings why made
 ceiled = record {
   value = ceilings;
@@ -56,7 +67,7 @@ ceiled = record {
   nothingElse = λ bytes l. rw (refused-so (readSheet bytes) l) refl;
 }
 
-bounded : Defined boundsCall
+pub bounded : Defined boundsCall
 unfolding bounds why made
 bounded = record {
   value = bounds;
@@ -66,7 +77,7 @@ bounded = record {
   nothingElse = λ bytes l. rw (refused-so (readSheet bytes) l) refl;
 }
 
-laxed : Defined laxitiesCall
+pub laxed : Defined laxitiesCall
 unfolding laxities why made signed
 laxed = record {
   value = laxities;
@@ -76,7 +87,7 @@ laxed = record {
   nothingElse = λ bytes l. rw (refused-so (readSheet bytes) l) refl;
 }
 
-ticks : Defined tickCall
+pub ticks : Defined tickCall
 unfolding ticked why made told recordAfter
 ticks = record {
   value = λ (bytes, st). ticked bytes st;
@@ -86,7 +97,7 @@ ticks = record {
   nothingElse = λ (bytes, st) l. rw (refused-so (readTick bytes st) l) refl;
 }
 
-ticksInPlace : Defined tickInPlaceCall
+pub ticksInPlace : Defined tickInPlaceCall
 unfolding told recordAfter ticked why made
 ticksInPlace = record {
   value = λ (bytes, st). (told bytes st, recordAfter bytes st);
@@ -96,7 +107,7 @@ ticksInPlace = record {
   nothingElse = λ (bytes, st) l. rw (refused-so (readTick bytes st) l) refl;
 }
 
-runs : Defined runCall
+pub runs : Defined runCall
 unfolding ran bufferAfter why made
 runs = record {
   value = λ (bytes, horizon, buffer). (ran bytes horizon buffer, bufferAfter bytes horizon buffer);
@@ -112,7 +123,8 @@ a and b = (a, b)
 
 pub noFreedom : NoFreedom
 noFreedom =
-    settled checkCall checked
+    settled startCall starts
+    and settled checkCall checked
     and settled ceilingsCall ceiled
     and settled boundsCall bounded
     and settled laxitiesCall laxed

@@ -7,7 +7,7 @@ use native.Mathlib.Nat.{suc-add, zero-add}
 use lib.ListN.{drop}
 use Rattle.rules.specs.Words.{row}
 use Rattle.rules.specs.Sheet.{Sheet}
-use Rattle.rules.specs.Record.{start}
+use Rattle.rules.specs.Fields.{start}
 use Rattle.rules.specs.Tick.{closed, tick}
 use Rattle.rules.specs.Run.{after, trace, written}
 use Rattle.rules.specs.Answers.{ticked, told, recordAfter}

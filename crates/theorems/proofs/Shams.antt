@@ -8,7 +8,8 @@ use lib.ListN.{getD}
 use borrow.Author.Tests.{ltb-true}
 use Rattle.rules.specs.Words.{_<?_}
 use Rattle.rules.specs.Sheet.{Sheet}
-use Rattle.rules.specs.Record.{start, recordAt}
+use Rattle.rules.specs.Fields.{start}
+use Rattle.rules.specs.Record.{recordAt}
 use Rattle.rules.specs.Tick.{closed, tick}
 use Rattle.rules.specs.Run.{after}
 use Rattle.rules.specs.Answers.{check, ceilings, bounds, laxities, ticked, told, recordAfter, ran, bufferAfter}
@@ -25,7 +26,7 @@ use Rattle.theorems.specs.NoFreedom.{Call, checkCall, ceilingsCall, boun
 use Rattle.theorems.specs.Runs.{called}
 use Rattle.theorems.specs.Shams.{Function, Meets, Caught, RefusingAndFixed, Touched, FixedAfterEach, NotAllAtOnce, SwitchesFixed, BlockedFixed, one, switchNow, blockedNow, blockedOf}
 use Rattle.theorems.proofs.Answers.{one-sheet, tick-goes, run-goes}
-use Rattle.theorems.proofs.NoFreedom.{_and_, noFreedom}
+use Rattle.theorems.proofs.NoFreedom.{_and_, settled, checked, ceiled, bounded, laxed, ticks, ticksInPlace, runs}
 use Rattle.theorems.proofs.Runs.{after-t, ticksAreRuns}
 use Rattle.theorems.proofs.Totals.{tick-switches, tick-blocked}
 use Rattle.theorems.proofs.Needed.{sheetA, readsA}
@@ -63,31 +64,31 @@ through c input outcome p a = record { input = input; outcome = outcome; permitt
 pub refusingAndFixed : RefusingAndFixed
 unfolding rules
 refusingAndFixed =
-    caught checkCall (noFreedom .0)
+    caught checkCall (settled checkCall checked)
     (through checkCall (A .sheet) (check (A .sheet)) refl refl)
     (through checkCall (A3 .sheet) (check (A3 .sheet)) refl refl)
     (λ r. r .tasks) refl
-    and caught ceilingsCall (noFreedom .1 .0)
+    and caught ceilingsCall (settled ceilingsCall ceiled)
     (through ceilingsCall (A3 .sheet) (ceilings (A3 .sheet)) refl refl)
     (through ceilingsCall (A .sheet) (ceilings (A .sheet)) refl refl)
     (λ r. getD (r .ceilings) 1 0) refl
-    and caught boundsCall (noFreedom .1 .1 .0)
+    and caught boundsCall (settled boundsCall bounded)
     (through boundsCall (D .sheet) (bounds (D .sheet)) refl refl)
     (through boundsCall (A .sheet) (bounds (A .sheet)) refl refl)
     (λ r. getD (r .bounds) 0 0) refl
-    and caught laxitiesCall (noFreedom .1 .1 .1 .0)
+    and caught laxitiesCall (settled laxitiesCall laxed)
     (through laxitiesCall (D .sheet) (laxities (D .sheet)) refl refl)
     (through laxitiesCall (A .sheet) (laxities (A .sheet)) refl refl)
     (λ r. getD (r .laxities) 0 noLaxity .size) refl
-    and caught tickCall (noFreedom .1 .1 .1 .1 .0)
+    and caught tickCall (settled tickCall ticks)
     (through tickCall (D .sheet, start) (ticked (D .sheet) start) refl refl)
     (through tickCall (A .sheet, start) (ticked (A .sheet) start) refl refl)
     (λ r. r .told .runner) refl
-    and caught tickInPlaceCall (noFreedom .1 .1 .1 .1 .1 .0)
+    and caught tickInPlaceCall (settled tickInPlaceCall ticksInPlace)
     (through tickInPlaceCall (D .sheet, start) (told (D .sheet) start, recordAfter (D .sheet) start) (refl, refl) refl)
     (through tickInPlaceCall (A .sheet, start) (told (A .sheet) start, recordAfter (A .sheet) start) (refl, refl) refl)
     (λ o. o .0 .runner) refl
-    and caught runCall (noFreedom .1 .1 .1 .1 .1 .1 .0)
+    and caught runCall (settled runCall runs)
     (through runCall (A .sheet, 0, []) (ran (A .sheet) 0 [], bufferAfter (A .sheet) 0 []) (refl, refl) refl)
     (through runCall (A .sheet, 1, 0 ∷ []) (ran (A .sheet) 1 (0 ∷ []), bufferAfter (A .sheet) 1 (0 ∷ [])) (refl, refl) refl)
     (λ o. o .0 .state .t) refl

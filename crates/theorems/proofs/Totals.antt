@@ -10,9 +10,10 @@ use lib.ListN.{length, getD, replicate}
 use borrow.Author.Tests.{eqb-true, lt-ltb, le-ltb}
 use Rattle.rules.specs.Words.{if_then_else_, _<?_, _=?_, total, among}
 use Rattle.rules.specs.Sheet.{Task, Sheet, taskAt}
-use Rattle.rules.specs.Record.{blank, start, recordAt}
+use Rattle.rules.specs.Fields.{TicksRun, TicksBlocked, up, blank, start}
+use Rattle.rules.specs.Record.{recordAt}
 use Rattle.rules.specs.Choice.{Runner, job, stuck, idle, runnerByte, topJob, mayGo, nextCandidate, walk, runner}
-use Rattle.rules.specs.Tick.{ranUp, blockedUp, releasesAt, released, afterReleases, leftOfRun, behindUnlocks, advanced, spent, afterRunner, closed, tick}
+use Rattle.rules.specs.Tick.{releasesAt, released, afterReleases, leftOfRun, behindUnlocks, advanced, spent, afterRunner, closed, runnerOf, tick}
 use Rattle.rules.specs.Run.{after}
 use Rattle.rules.specs.declared.TaskRecord.{TaskRecord}
 use Rattle.rules.specs.declared.State.{State}
@@ -64,7 +65,7 @@ advanced-blocked t task r =
 
 -- rule 6 lets it rise by one where the job is blocked
 job-blocked : (low same under waits : Bool) (ran r : TaskRecord) → low ≡ true → (same ≡ true → under ≡ false) → blocked ran ≡ blocked r
-    → blocked (if same then record { job = ran .job; counts = ranUp (ran .counts) } else if under && waits then record { job = r .job; counts = blockedUp (r .counts) } else r)
+    → blocked (if same then record { job = ran .job; counts = up TicksRun (ran .counts) } else if under && waits then record { job = r .job; counts = up TicksBlocked (r .counts) } else r)
     ≡ blocked r + one (low && under && waits)
 job-blocked false same under waits ran r l h e = true-false false l refl
 job-blocked true true false waits ran r l h e = e ∙ sym (add-zero (blocked r))
@@ -89,16 +90,16 @@ module _ (sheet : Sheet) (st : State) where
       ap blocked (row-at 16 _ blank i l)
       ∙ if-blocked (i <? length (sheet .tasks)) _ _ _ (released-blocked (st .t) (taskAt sheet i) (recordAt (st .tasks) i)) refl
 
-  pub tick-blocked : (i : ℕ) → i < 16 → blockedOf (tick sheet st) i ≡ blockedOf st i + one (blockedNow sheet st (tick sheet st .last) i)
-  unfolding tick closed afterRunner recordAt
+  pub tick-blocked : (i : ℕ) → i < 16 → blockedOf (tick sheet st) i ≡ blockedOf st i + one (blockedNow sheet st (runnerByte (runnerOf sheet st)) i)
+  unfolding tick runnerOf closed afterRunner recordAt
   tick-blocked i l =
       let rs = afterReleases sheet st in
       ap blocked (row-at 16 _ blank i l)
       ∙ spent-blocked (runner sheet rs) (st .t) i (taskAt sheet i) (recordAt rs i) (runner-ranked sheet rs)
       ∙ ap (λ (n : ℕ). n + one (blockedNow sheet st (runnerByte (runner sheet rs)) i)) (releases-blocked i l)
 
-  pub tick-switches : tick sheet st .switches ≡ st .switches + one (switchNow st (tick sheet st .last))
-  unfolding tick closed
+  pub tick-switches : tick sheet st .switches ≡ st .switches + one (switchNow st (runnerByte (runnerOf sheet st)))
+  unfolding tick runnerOf closed
   tick-switches = go (runnerByte (runner sheet (afterReleases sheet st)) =? st .last)
     where
       go : (b : Bool) → (if b then st .switches else st .switches + 1) ≡ st .switches + one (not b)
@@ -112,20 +113,20 @@ blank-at (suc n) zero = refl
 blank-at (suc n) (suc i) = blank-at n i
 
 blocked-total : (h : ℕ) (sheet : Sheet) (i : ℕ) → i < 16
-    → blockedOf (after h sheet start) i ≡ total h λ t. one (blockedNow sheet (after t sheet start) (after (suc t) sheet start .last) i)
+    → blockedOf (after h sheet start) i ≡ total h λ t. one (blockedNow sheet (after t sheet start) (runnerByte (runnerOf sheet (after t sheet start))) i)
 unfolding after total recordAt
 blocked-total zero sheet i l = ap blocked (blank-at 16 i)
 blocked-total (suc h) sheet i l =
     tick-blocked sheet (after h sheet start) i l
-    ∙ ap (λ (n : ℕ). n + one (blockedNow sheet (after h sheet start) (after (suc h) sheet start .last) i)) (blocked-total h sheet i l)
+    ∙ ap (λ (n : ℕ). n + one (blockedNow sheet (after h sheet start) (runnerByte (runnerOf sheet (after h sheet start))) i)) (blocked-total h sheet i l)
 
 switches-total : (h : ℕ) (sheet : Sheet)
-    → after h sheet start .switches ≡ total h λ t. one (switchNow (after t sheet start) (after (suc t) sheet start .last))
+    → after h sheet start .switches ≡ total h λ t. one (switchNow (after t sheet start) (runnerByte (runnerOf sheet (after t sheet start))))
 unfolding after total
 switches-total zero sheet = refl
 switches-total (suc h) sheet =
     tick-switches sheet (after h sheet start)
-    ∙ ap (λ (n : ℕ). n + one (switchNow (after h sheet start) (after (suc h) sheet start .last))) (switches-total h sheet)
+    ∙ ap (λ (n : ℕ). n + one (switchNow (after h sheet start) (runnerByte (runnerOf sheet (after h sheet start))))) (switches-total h sheet)
 
 pub totalsOfRuns : TotalsOfRuns
 totalsOfRuns h sheet = (switches-total h sheet, blocked-total h sheet)

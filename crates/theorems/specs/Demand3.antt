@@ -6,7 +6,8 @@ use mathlib.Core.Bool.{true, false}
 use lib.ListN.{length, take}
 use Rattle.rules.specs.Sheet.{Sheet, taskAt}
 use Rattle.rules.specs.Reading.{read, readSheet}
-use Rattle.rules.specs.Record.{recordAt, start, possible}
+use Rattle.rules.specs.Fields.{start}
+use Rattle.rules.specs.Record.{recordAt, possible}
 use Rattle.rules.specs.Choice.{locks}
 use Rattle.rules.specs.Run.{after}
 use Rattle.rules.specs.Bounds.{bound, laxity}

@@ -4,7 +4,7 @@ use Prim.Native.Nat.{ℕ}
 use mathlib.Core.Path.{_≡_}
 use mathlib.Core.List.{List}
 use Rattle.rules.specs.Sheet.{Sheet}
-use Rattle.rules.specs.Record.{start}
+use Rattle.rules.specs.Fields.{start}
 use Rattle.rules.specs.Run.{after}
 use Rattle.rules.specs.Cases.{A, A3}
 use Rattle.theorems.specs.Demand3.{SameFirst, SameMode, NoLowerLocks, Premises, SameRecords, Permitted}

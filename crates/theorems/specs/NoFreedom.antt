@@ -5,7 +5,9 @@ use mathlib.Core.Path.{_≡_}
 use mathlib.Core.List.{List, [], _∷_}
 use mathlib.Core.Bool.{false}
 use lib.ListN.{replicate}
-use Rattle.rules.specs.Answers.{check, ceilings, bounds, laxities, ticked, told, recordAfter, ran, bufferAfter, noState}
+use Rattle.rules.specs.Fields.{noState}
+use Rattle.rules.specs.Contracts.{startContract, checkContract, ceilingsContract, boundsContract, laxitiesContract, tickContract, tickInPlaceContract, runContract}
+use Rattle.rules.specs.Reading.{refusal}
 use Rattle.rules.specs.declared.State.{State}
 use Rattle.rules.specs.declared.Refusal.{Refusal}
 use Rattle.rules.specs.declared.Checked.{Checked}
@@ -18,8 +20,8 @@ use Rattle.rules.specs.declared.Told.{Told}
 use Rattle.rules.specs.declared.Ran.{Ran}
 use Rattle.theorems.specs.Refusals.{Refused, Numbered}
 
--- A public call: what goes in; what comes out, with lent memory as it is afterwards; what its contract permits; and, for
--- refused calls, the refusal in an outcome and the outcome that has nothing but a refusal.
+-- A public call: what goes in; what comes out, with lent memory as it is afterwards; what its contract permits, which is the
+-- definition that the function itself is proved against; and, for refused calls, the refusal in an outcome and the outcome that has nothing but a refusal.
 pub record Call : Type 1 where
   pub Input : Type 0
   pub Outcome : Type 0
@@ -32,7 +34,7 @@ abbrev pub checkCall : Call
 checkCall = record {
   Input = List ℕ;
   Outcome = Checked;
-  permits = λ bytes r. r ≡ check bytes;
+  permits = checkContract;
   refusal = λ r. r .refusal;
   nothingBut = λ bytes x. record { refusal = x; tasks = 0; semaphores = 0; mode = 0 };
 }
@@ -42,7 +44,7 @@ abbrev pub ceilingsCall : Call
 ceilingsCall = record {
   Input = List ℕ;
   Outcome = Ceilings;
-  permits = λ bytes r. r ≡ ceilings bytes;
+  permits = ceilingsContract;
   refusal = λ r. r .refusal;
   nothingBut = λ bytes x. record { refusal = x; ceilings = replicate 16 0 };
 }
@@ -52,7 +54,7 @@ abbrev pub boundsCall : Call
 boundsCall = record {
   Input = List ℕ;
   Outcome = Bounds;
-  permits = λ bytes r. r ≡ bounds bytes;
+  permits = boundsContract;
   refusal = λ r. r .refusal;
   nothingBut = λ bytes x. record { refusal = x; bounds = replicate 16 0 };
 }
@@ -65,7 +67,7 @@ abbrev pub laxitiesCall : Call
 laxitiesCall = record {
   Input = List ℕ;
   Outcome = Laxities;
-  permits = λ bytes r. r ≡ laxities bytes;
+  permits = laxitiesContract;
   refusal = λ r. r .refusal;
   nothingBut = λ bytes x. record { refusal = x; laxities = replicate 16 noLaxity };
 }
@@ -75,7 +77,7 @@ abbrev pub tickCall : Call
 tickCall = record {
   Input = List ℕ × State;
   Outcome = Ticked;
-  permits = λ (bytes, st) r. r ≡ ticked bytes st;
+  permits = λ (bytes, st) r. tickContract bytes st r;
   refusal = λ r. r .told .refusal;
   nothingBut = λ (bytes, st) x. record { told = record { refusal = x; runner = 0 }; state = st };
 }
@@ -85,7 +87,7 @@ abbrev pub tickInPlaceCall : Call
 tickInPlaceCall = record {
   Input = List ℕ × State;
   Outcome = Told × State;
-  permits = λ (bytes, st) (r, stAfter). (r ≡ told bytes st) × (stAfter ≡ recordAfter bytes st);
+  permits = λ (bytes, st) (r, stAfter). tickInPlaceContract bytes st r stAfter;
   refusal = λ (r, stAfter). r .refusal;
   nothingBut = λ (bytes, st) x. (record { refusal = x; runner = 0 }, st);
 }
@@ -95,13 +97,27 @@ abbrev pub runCall : Call
 runCall = record {
   Input = List ℕ × ℕ × List ℕ;
   Outcome = Ran × List ℕ;
-  permits = λ (bytes, horizon, buffer) (r, bufAfter). (r ≡ ran bytes horizon buffer) × (bufAfter ≡ bufferAfter bytes horizon buffer);
+  permits = λ (bytes, horizon, buffer) (r, bufAfter). runContract bytes horizon buffer r bufAfter;
   refusal = λ (r, bufAfter). r .refusal;
   nothingBut = λ (bytes, horizon, buffer) x. (record { refusal = x; state = noState }, buffer);
 }
 
+-- start(): it takes nothing and refuses nothing
+abbrev pub startCall : Call
+startCall = record {
+  Input = Unit {0};
+  Outcome = State;
+  permits = λ u r. startContract r;
+  refusal = λ r. refusal 0 0 0;
+  nothingBut = λ u x. noState;
+}
+
+-- The calls on a sheet, and with them every public call.
 abbrev pub calls : List Call
 calls = checkCall ∷ ceilingsCall ∷ boundsCall ∷ laxitiesCall ∷ tickCall ∷ tickInPlaceCall ∷ runCall ∷ []
+
+abbrev pub everyCall : List Call
+everyCall = startCall ∷ calls
 
 abbrev pub Each : (Call → Type 0) → List Call → Type 0
 Each P [] = Unit {0}
@@ -121,4 +137,4 @@ pub record Settled (c : Call) : Type 0 where
       → Refused (c .refusal outcome) → outcome ≡ c .nothingBut input (c .refusal outcome)
 
 abbrev pub NoFreedom : Type 0
-NoFreedom = Each Settled calls
+NoFreedom = Each Settled everyCall

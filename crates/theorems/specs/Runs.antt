@@ -5,8 +5,9 @@ use mathlib.Core.List.{List, [], _∷_, _++_}
 use lib.ListN.{drop}
 use Rattle.rules.specs.Words.{row}
 use Rattle.rules.specs.Sheet.{Sheet}
-use Rattle.rules.specs.Record.{start}
-use Rattle.rules.specs.Tick.{tick}
+use Rattle.rules.specs.Fields.{start}
+use Rattle.rules.specs.Choice.{runnerByte}
+use Rattle.rules.specs.Tick.{runnerOf, tick}
 use Rattle.rules.specs.Run.{after, trace}
 use Rattle.rules.specs.Answers.{ticked, told, recordAfter, ran, bufferAfter}
 use Rattle.rules.specs.declared.State.{State}
@@ -17,7 +18,7 @@ use Rattle.theorems.specs.Refusals.{NotRefused}
 abbrev pub OneMore : Type 0
 OneMore = (h : ℕ) (sheet : Sheet) (st : State)
     → (after (suc h) sheet st ≡ tick sheet (after h sheet st))
-    × (trace (suc h) sheet st ≡ trace h sheet st ++ (tick sheet (after h sheet st) .last ∷ []))
+    × (trace (suc h) sheet st ≡ trace h sheet st ++ (runnerByte (runnerOf sheet (after h sheet st)) ∷ []))
 
 -- A run of h ticks and then of n more is a run of n + h.
 abbrev pub InTwoParts : Type 0

@@ -6,8 +6,10 @@ use mathlib.Core.List.{List}
 use mathlib.Core.Bool.{Bool, not, _&&_}
 use Rattle.rules.specs.Words.{if_then_else_, _<?_, _=?_, total}
 use Rattle.rules.specs.Sheet.{Sheet}
-use Rattle.rules.specs.Record.{start, recordAt}
-use Rattle.rules.specs.Tick.{afterReleases}
+use Rattle.rules.specs.Fields.{start}
+use Rattle.rules.specs.Record.{recordAt}
+use Rattle.rules.specs.Choice.{runnerByte}
+use Rattle.rules.specs.Tick.{afterReleases, runnerOf}
 use Rattle.rules.specs.Run.{after}
 use Rattle.rules.specs.Answers.{ticked, ran}
 use Rattle.rules.specs.Cases.{A}
@@ -97,6 +99,6 @@ BlockedFixed = (f : Function tickCall) → Meets tickCall f
 -- the task is blocked.
 abbrev pub TotalsOfRuns : Type 0
 TotalsOfRuns = (h : ℕ) (sheet : Sheet)
-    → (after h sheet start .switches ≡ total h λ t. one (switchNow (after t sheet start) (after (suc t) sheet start .last)))
+    → (after h sheet start .switches ≡ total h λ t. one (switchNow (after t sheet start) (runnerByte (runnerOf sheet (after t sheet start)))))
     × ((i : ℕ) → i < 16
-    → blockedOf (after h sheet start) i ≡ total h λ t. one (blockedNow sheet (after t sheet start) (after (suc t) sheet start .last) i))
+    → blockedOf (after h sheet start) i ≡ total h λ t. one (blockedNow sheet (after t sheet start) (runnerByte (runnerOf sheet (after t sheet start))) i))

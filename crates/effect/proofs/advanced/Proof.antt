@@ -1,6 +1,8 @@
+-- The runner goes on with its run, comes to its next step, or completes.
 use native.Mathlib.Omega.{arith}
 use denote.Ref.{now}
 use borrow.Author.Needs.{needs}
+use Rattle.rules.specs.Fields.{Completions}
 use Rattle.rules.specs.Tick.{nextRun}
 use Rattle.rules.specs.Record.{ahead}
 use Rattle.table.proofs.Laws.{length-steps}
@@ -19,15 +21,18 @@ left-of-run-requires : tie.Need-left-of-run-requires
 unfolding nextRun ahead
 left-of-run-requires c κs = search needs
 
-cast-t17 : tie.Need-cast-t17
+cast-moved-to : tie.Need-cast-moved-to
 unfolding nextRun ahead
-cast-t17 c =
+cast-moved-to c =
     let b = c .before .before .before .before .before .before .before in
     let n = length-steps (now (b .args .s)) (b .args .e) in
     omega (arith, next-run-fits (taskOf (now (b .args .s)) (b .args .e)) (b .args .r .job) (c .before .before .past-locks .result) (c .before .before .past-locks .ensures) (omega (arith, b .pre .0 .few)) (omega arith))
 
-sub-t18 : tie.Need-sub-t18
-sub-t18 c = search needs
+sub-moved-to : tie.Need-sub-moved-to
+sub-moved-to c = search needs
+
+moved-to-requires : tie.Need-moved-to-requires
+moved-to-requires c κs = search needs
 
 returns : tie.Need-returns
 unfolding nextRun ahead
@@ -49,35 +54,45 @@ cast-if2 c = search needs
 full-at-requires : tie.Need-full-at-requires
 full-at-requires c κs = search needs
 
-cast-t19 : tie.Need-cast-t19
-cast-t19 c = search needs
+cast-moved-to-2 : tie.Need-cast-moved-to-2
+cast-moved-to-2 c = search needs
+
+moved-to-requires-2 : tie.Need-moved-to-requires-2
+moved-to-requires-2 c κs = search needs
 
 returns-2 : tie.Need-returns-2
 unfolding nextRun ahead
 returns-2 c =
-    let run = c .before .before .before .before .before .before in
+    let m = c .before in
+    let unlocked = m .before .before .before in
+    let run = unlocked .before .before .before in
     let b = run .before .before .before .before .before in
     let n = length-steps (now (b .args .s)) (b .args .e) in
-    advanced-further (b .args .t) (taskOf (now (b .args .s)) (b .args .e)) (b .args .r) (run .past-locks .result) (c .before .before .before .before .before .left-of-run .result)
-    (run .past-locks .ensures) (c .before .before .before .before .before .left-of-run .ensures) (c .before .before .before .before .if1 .left)
-    (c .before .before .before .past-unlocks .result) (c .before .before .before .past-unlocks .ensures) (omega arith) (c .full-at .result) (c .full-at .ensures)
+    advanced-further (b .args .t) (taskOf (now (b .args .s)) (b .args .e)) (b .args .r) (run .past-locks .result) (unlocked .before .before .left-of-run .result)
+    (run .past-locks .ensures) (unlocked .before .before .left-of-run .ensures) (unlocked .before .if1 .left)
+    (unlocked .past-unlocks .result) (unlocked .past-unlocks .ensures) (omega arith) (m .full-at .result) (m .full-at .ensures) (c .moved-to2 .result) (c .moved-to2 .ensures)
 
 response-requires : tie.Need-response-requires
 response-requires c κs = search needs
 
-completions-up-requires : tie.Need-completions-up-requires
-completions-up-requires c κs = search needs
+completed-requires : tie.Need-completed-requires
+completed-requires c κs = c .before .before .before .before .before .before .before .before .before .before .before .pre .1 .0 Completions
+
+no-job-requires : tie.Need-no-job-requires
+no-job-requires c κs = search needs
 
 returns-3 : tie.Need-returns-3
 unfolding nextRun ahead
 returns-3 c =
-    let unlocked = c .before .before .before .before in
+    let done = c .before in
+    let unlocked = done .before .before .before .before in
     let run = unlocked .before .before .before in
     let b = run .before .before .before .before .before in
     let n = length-steps (now (b .args .s)) (b .args .e) in
     advanced-done (b .args .t) (taskOf (now (b .args .s)) (b .args .e)) (b .args .r) (run .past-locks .result) (unlocked .before .before .left-of-run .result)
     (run .past-locks .ensures) (unlocked .before .before .left-of-run .ensures) (unlocked .before .if1 .left)
-    (unlocked .past-unlocks .result) (unlocked .past-unlocks .ensures) (omega arith) (c .before .response .result) (c .before .response .ensures) (c .completions-up .result) (c .completions-up .ensures)
+    (unlocked .past-unlocks .result) (unlocked .past-unlocks .ensures) (omega arith) (done .before .response .result) (done .before .response .ensures)
+    (done .completed .result) (done .completed .ensures) (c .no-job .result) (c .no-job .ensures)
 
 pub advanced-spec : {M : Type 1} → statement M
 advanced-spec =
@@ -86,15 +101,18 @@ advanced-spec =
     cast-past-locks
     past-locks-requires
     left-of-run-requires
-    cast-t17
-    sub-t18
+    cast-moved-to
+    sub-moved-to
+    moved-to-requires
     returns
     add-past-unlocks
     past-unlocks-requires
     cast-if2
     full-at-requires
-    cast-t19
+    cast-moved-to-2
+    moved-to-requires-2
     returns-2
     response-requires
-    completions-up-requires
+    completed-requires
+    no-job-requires
     returns-3)

@@ -7,7 +7,8 @@ use denote.Ref.{now}
 use borrow.Author.Needs.{needs}
 use Rattle.rules.specs.Record.{recordAt}
 use Rattle.table.proofs.Laws.{entry-in, lies-from}
-use Rattle.effect.specs.Effect.{withTasks, changedBelow}
+use Rattle.rules.specs.Fields.{withTasks}
+use Rattle.effect.specs.Effect.{changedBelow}
 use Rattle.effect.proofs.Laws.{releasing, releases-none, releases-all, releases-here, releases-more, releases-no, period-from}
 use Rattle.effect.proofs.after_releases.Statement.{statement}
 use Rattle.effect.proofs.after_releases.Tie as tie

@@ -4,7 +4,8 @@ use mathlib.Core.Logic.{⊎-elim}
 use native.Mathlib.Omega.{arith}
 use lib.ListN.{length-map}
 use Rattle.rules.specs.Record.{recordAt}
-use Rattle.effect.specs.Effect.{withTasks, eachBlocked, blockedOnce}
+use Rattle.rules.specs.Fields.{TicksBlocked, withTasks}
+use Rattle.effect.specs.Effect.{eachBlocked, blockedOnce}
 use Rattle.effect.proofs.Laws.{changed-none, blocked-here, blocked-yes, blocked-more, blocked-no}
 use Rattle.effect.proofs.blocked_above.Statement.{statement}
 use Rattle.effect.proofs.blocked_above.Tie as tie
@@ -29,7 +30,7 @@ unfolding recordAt
 blocked-up-requires c κs =
     let b = c .before .before .before .before .before in
     let l = c .before .before .before .before .loop in
-    rw (blocked-here (b .args .st) (l .next) (l .i) (l .inv .1) (omega arith)) (b .pre .1 (l .i) (omega arith) .blocked)
+    rw (blocked-here (b .args .st) (l .next) (l .i) (l .inv .1) (omega arith)) (b .pre .1 (l .i) (omega arith) TicksBlocked)
 
 mul-t14 : tie.Need-mul-t14 Inv-loop μ-loop
 mul-t14 c = omega arith

@@ -1,3 +1,5 @@
+-- The runner's record, with its ticks run.
+use Rattle.rules.specs.Fields.{TicksRun}
 use borrow.Author.Needs.{needs}
 use Rattle.effect.proofs.Laws.{advanced-ran, spent-runner}
 use Rattle.effect.proofs.ran.Statement.{statement}
@@ -9,7 +11,7 @@ advanced-requires c κs = search needs
 ran-up-requires : tie.Need-ran-up-requires
 ran-up-requires c κs =
     let b = c .before .before .before in
-    rw (c .before .advanced .ensures, advanced-ran) (b .pre .1 .0 .ran)
+    rw (c .before .advanced .ensures, advanced-ran) (b .pre .1 .0 TicksRun)
 
 returns : tie.Need-returns
 returns c = search spent-runner

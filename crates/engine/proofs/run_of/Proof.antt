@@ -5,17 +5,19 @@ use native.Mathlib.Omega.{arith}
 use lib.ListN.{length, length-set}
 use denote.Ref.{now}
 use borrow.Author.Needs.{needs}
-use Rattle.rules.specs.Record.{start, recordAt}
-use Rattle.rules.specs.Tick.{afterReleases, afterRunner, closed, tick}
+use Rattle.rules.specs.Fields.{start, withTasks}
+use Rattle.rules.specs.Record.{recordAt}
+use Rattle.rules.specs.Choice.{runnerByte}
+use Rattle.rules.specs.Tick.{afterReleases, afterRunner, closed, runnerOf, tick}
 use Rattle.rules.specs.Run.{after, written}
 use Rattle.rules.specs.declared.State.{State}
 use Rattle.table.specs.Table.{taskOf, sheetOf}
 use Rattle.table.proofs.Laws.{task-at, lies-from}
 use Rattle.holders.specs.Holders.{holders}
 use Rattle.choice.proofs.Moves.{holders-start}
-use Rattle.effect.specs.Effect.{withTasks, runnerOf, Quiet}
+use Rattle.effect.specs.Effect.{runnerNamed, Quiet}
 use Rattle.effect.proofs.Laws.{releases-quiet, ran-nobody}
-use Rattle.engine.proofs.Ticks.{room, room-after, switches-room, choosable, sized-after, holders-kept, holders-nobody, holders-runner, tick-parts, closed-last, closed-tasks, quiet-on, after-more, written-none, written-more, run-time, run-possible, run-sized}
+use Rattle.engine.proofs.Ticks.{room, room-after, switches-room, choosable, sized-after, holders-kept, holders-nobody, holders-runner, tick-parts, byte-of, closed-tasks, quiet-on, after-more, written-none, written-more, run-time, run-possible, run-sized}
 use Rattle.engine.proofs.run_of.Statement.{statement}
 use Rattle.engine.proofs.run_of.Tie as tie
 
@@ -27,14 +29,14 @@ Inv-loop s table cs h trace₀ end st₀ hs₀ due₀ k₀ trace st hs due k =
 abbrev μ-loop : tie.MeasureT-loop
 μ-loop s table cs h trace₀ end st₀ hs₀ due₀ k₀ trace st hs due k = end - k
 
-start-state-requires : tie.Need-start-state-requires Inv-loop μ-loop
-start-state-requires c κs = search needs
+start-requires : tie.Need-start-requires Inv-loop μ-loop
+start-requires c κs = search needs
 
 loop-holds : tie.Need-loop-holds Inv-loop μ-loop
 unfolding after
 loop-holds c =
     let b = c .before .before .before in
-    let z = c .start-state .ensures in
+    let z = c .start .ensures in
     let sheet = sheetOf (now (b .args .s)) (b .args .table) in
     (omega arith, refl, z, written-none _ _, sym (ap (λ (x : State). holders sheet (x .tasks)) z ∙ holders-start sheet), λ i l k f h. absurd (omega arith))
 
@@ -126,7 +128,7 @@ closed-requires c κs =
     let released : a ≡ withTasks (l .st) (afterReleases sheet (l .st)) =
     ⊎-elim (λ w. w .3 ∙ w .1 .ensures) (λ w. w .1 ∙ releases-quiet sheet (l .st) (l .due) (run-sized bytes sheet (b .pre .0 .reads) (l .k) early (l .st) (l .inv .2)) (l .inv .5) (w .0 .left)) (c .before .before .if1 .came) in
     let x = c .before .runner-with .result in
-    let ran : c .if2 .st ≡ withTasks a (afterRunner (runnerOf x) sheet (a .t) (a .tasks)) =
+    let ran : c .if2 .st ≡ withTasks a (afterRunner (runnerNamed x) sheet (a .t) (a .tasks)) =
     ⊎-elim (λ w. w .6 ∙ w .3 .ensures) (λ w. w .1 ∙ ran-nobody bytes (b .args .table) a x (w .0 .left) (sized-after bytes sheet (b .pre .0 .reads) (l .st) possible time a released)) (c .if2 .came) in (
       omega (arith, time, ap (λ (x : State). x .t) released, ap (λ (x : State). x .t) ran),
       omega (arith, switches-room bytes sheet (b .pre .0 .reads) (l .st) possible time, ap (λ (x : State). x .switches) released, ap (λ (x : State). x .switches) ran),
@@ -155,7 +157,7 @@ loop-again c =
     let released : a ≡ withTasks (l .st) (afterReleases sheet (l .st)) =
     ⊎-elim (λ w. w .3 ∙ w .1 .ensures) (λ w. w .1 ∙ releases-quiet sheet (l .st) (l .due) (run-sized bytes sheet (b .pre .0 .reads) (l .k) early (l .st) (l .inv .2)) (l .inv .5) (w .0 .left)) (c .before .before .before .if1 .came) in
     let x = c .before .before .runner-with .result in
-    let ran : c .before .if2 .st ≡ withTasks a (afterRunner (runnerOf x) sheet (a .t) (a .tasks)) =
+    let ran : c .before .if2 .st ≡ withTasks a (afterRunner (runnerNamed x) sheet (a .t) (a .tasks)) =
     ⊎-elim (λ w. w .6 ∙ w .3 .ensures) (λ w. w .1 ∙ ran-nobody bytes (b .args .table) a x (w .0 .left) (sized-after bytes sheet (b .pre .0 .reads) (l .st) possible time a released)) (c .before .if2 .came) in
     let next = c .closed .result in
     let ticked : next ≡ tick sheet (l .st) = tick-parts sheet (l .st) a (c .before .if2 .st) next x released (c .before .before .runner-with .ensures) ran (c .closed .ensures) in
@@ -164,7 +166,7 @@ loop-again c =
       omega arith,
       length-set (l .trace) (l .k) x ∙ l .inv .1,
       on,
-      written-more sheet (l .k) (now (b .args .trace)) (l .trace) x inside (l .inv .3) (closed-last (c .before .if2 .st) next x (c .closed .ensures) ∙ ap (λ (y : State). y .last) on),
+      written-more sheet (l .k) (now (b .args .trace)) (l .trace) x inside (l .inv .3) (byte-of sheet (l .st) a x released (c .before .before .runner-with .ensures) ∙ ap (λ (y : State). runnerByte (runnerOf sheet y)) (l .inv .2)),
       ⊎-elim
           (λ w. w .7
           ∙ holders-runner bytes sheet (b .pre .0 .reads) (l .st) possible time a released x (c .before .before .runner-with .ensures) (w .3 .result) (w .3 .ensures) (l .hs) (l .inv .4)
@@ -196,7 +198,7 @@ run-of-spec =
     (tie.spec
     Inv-loop
     μ-loop
-    start-state-requires
+    start-requires
     loop-holds
     cast-if1
     after-releases-requires

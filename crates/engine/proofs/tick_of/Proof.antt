@@ -1,9 +1,10 @@
+-- One tick is the releases, the choice, the runner's tick and the tick's end.
 use mathlib.Core.Path.{ap}
 use native.Mathlib.Omega.{arith}
 use denote.Ref.{now}
 use Rattle.rules.specs.declared.State.{State}
 use Rattle.table.specs.Table.{sheetOf}
-use Rattle.engine.proofs.Ticks.{room, room-after, switches-room, choosable, tick-parts}
+use Rattle.engine.proofs.Ticks.{room, room-after, switches-room, choosable, byte-of, tick-parts}
 use Rattle.engine.proofs.tick_of.Statement.{statement}
 use Rattle.engine.proofs.tick_of.Tie as tie
 
@@ -43,8 +44,13 @@ closed-requires c κs =
 returns : tie.Need-returns
 returns c =
     let b = c .before .before .before .before .before in
-    tick-parts (sheetOf (now (b .args .s)) (b .args .table)) (b .args .st) (c .before .before .before .after-releases .result) (c .before .after-runner .result) (c .closed .result) (c .before .before .runner-of .result)
-    (c .before .before .before .after-releases .ensures) (c .before .before .runner-of .ensures) (c .before .after-runner .ensures) (c .closed .ensures)
+    let sheet = sheetOf (now (b .args .s)) (b .args .table) in
+    let a = c .before .before .before .after-releases in
+    let x = c .before .before .runner-of in (
+      byte-of sheet (b .args .st) (a .result) (x .result) (a .ensures) (x .ensures),
+      tick-parts sheet (b .args .st) (a .result) (c .before .after-runner .result) (c .closed .result) (x .result)
+          (a .ensures) (x .ensures) (c .before .after-runner .ensures) (c .closed .ensures),
+    )
 
 pub tick-of-spec : {M : Type 1} → statement M
 tick-of-spec =

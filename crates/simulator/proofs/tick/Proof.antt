@@ -1,3 +1,4 @@
+-- A tick tests 16, then 17; then the engine's tick is the rules'.
 use borrow.Author.Tests.{not-true, not-false}
 use mathlib.Core.Path.{sym, ap, _∙_}
 use Rattle.rules.specs.declared.Refusal.{Refusal}
@@ -63,9 +64,11 @@ tick-of-requires c κs =
 
 returns-4 : tie.Need-returns-4
 returns-4 c =
-    let a = c .before .before .before .before .before in
+    let t = c .before in
+    let a = t .before .before .before .before .before in
     let e = a .before .before in
-    tick-made _ _ _ (e .before .before .before .read-sheet .ensures) (e .if1 .left) _ (a .possible-state .ensures) (not-false _ (c .before .before .before .before .if2 .left)) (c .before .before .if3 .left) _ (c .tick-of .ensures)
+    tick-made _ _ _ (e .before .before .before .read-sheet .ensures) (e .if1 .left) _ (a .possible-state .ensures) (not-false _ (t .before .before .before .before .if2 .left)) (t .before .before .if3 .left)
+    _ _ (t .tick-of .ensures .0) (t .tick-of .ensures .1)
 
 pub tick-spec : {M : Type 1} → statement M
 tick-spec =

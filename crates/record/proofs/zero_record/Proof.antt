@@ -1,7 +1,7 @@
-use Rattle.possible.proofs.Fits.{pending-not-zero, place-not-zero, else-counts}
+use Rattle.record.proofs.Laws.{pending-not-zero, place-not-zero, else-counts}
 use borrow.Author.Needs.{needs}
-use Rattle.possible.proofs.zero_record.Statement.{statement}
-use Rattle.possible.proofs.zero_record.Tie as tie
+use Rattle.record.proofs.zero_record.Statement.{statement}
+use Rattle.record.proofs.zero_record.Tie as tie
 
 returns : tie.Need-returns
 returns c = search pending-not-zero

@@ -1,6 +1,6 @@
-use Rattle.possible.proofs.Fits.{placed, ticks-left, else-released}
-use Rattle.possible.proofs.zero_place.Statement.{statement}
-use Rattle.possible.proofs.zero_place.Tie as tie
+use Rattle.record.proofs.Laws.{placed, ticks-left, else-released}
+use Rattle.record.proofs.zero_place.Statement.{statement}
+use Rattle.record.proofs.zero_place.Tie as tie
 
 returns : tie.Need-returns
 returns c = search placed

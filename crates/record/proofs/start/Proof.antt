@@ -1,0 +1,14 @@
+-- The zero record of a run with the last runner set.
+use borrow.Author.Needs.{needs}
+use Rattle.record.proofs.Laws.{start-of}
+use Rattle.record.proofs.start.Statement.{statement}
+use Rattle.record.proofs.start.Tie as tie
+
+no-state-requires : tie.Need-no-state-requires
+no-state-requires c κs = search needs
+
+returns : tie.Need-returns
+returns c = search start-of
+
+pub start-spec : {M : Type 1} → statement M
+start-spec = tie.close (tie.spec no-state-requires returns)

@@ -1,0 +1,202 @@
+// The record's fields in code, as rules/specs/Fields.antt lists them: the makers, the counts as a row, the tests that look at
+// every field. The other crates name a field only where a rule is about it.
+use rules::Counts;
+use rules::Job;
+use rules::State;
+use rules::TaskRecord;
+ghost use mathlib.Core.Path.{_≡_};
+ghost use Prim.Native.Nat.{_<_, max};
+ghost use lib.ListN.{getD};
+ghost use Rattle.rules.specs.Fields.{Releases, Misses, TicksRun, TicksBlocked, placeOf, counts, counted, up, standing, movedTo, noJob, place, blank, zeros, zeroRecord, noState, start};
+ghost use Rattle.rules.specs.Record.{countsFit};
+ghost use Rattle.rules.specs.Tick.{completed};
+
+// The counts as a row,
+pub fn counted(c: Counts) -> [u16; 6]
+    ensures { λ r. ⌜ r ≡ counted c ⌝ }
+{
+    [
+        c.releases,
+        c.completions,
+        c.misses,
+        c.ran,
+        c.blocked,
+        c.worst,
+    ]
+}
+
+// and counts from their row.
+pub fn counts_of(row: [u16; 6]) -> Counts
+    ensures { λ r. ⌜ r ≡ counts (λ k. getD row (placeOf k) 0) ⌝ }
+{
+    Counts {
+        releases: row[0],
+        completions: row[1],
+        misses: row[2],
+        ran: row[3],
+        blocked: row[4],
+        worst: row[5],
+    }
+}
+
+// Counts of which one has risen by one.
+pub fn releases_up(c: Counts) -> Counts
+    requires { ⌜ c .releases < 65535 ⌝ }
+    ensures { λ r. ⌜ r ≡ up Releases c ⌝ }
+{
+    let mut d = c;
+    d.releases = c.releases + 1;
+    d
+}
+
+pub fn misses_up(c: Counts) -> Counts
+    requires { ⌜ c .misses < 65535 ⌝ }
+    ensures { λ r. ⌜ r ≡ up Misses c ⌝ }
+{
+    let mut d = c;
+    d.misses = c.misses + 1;
+    d
+}
+
+pub fn ran_up(c: Counts) -> Counts
+    requires { ⌜ c .ran < 65535 ⌝ }
+    ensures { λ r. ⌜ r ≡ up TicksRun c ⌝ }
+{
+    let mut d = c;
+    d.ran = c.ran + 1;
+    d
+}
+
+pub fn blocked_up(c: Counts) -> Counts
+    requires { ⌜ c .blocked < 65535 ⌝ }
+    ensures { λ r. ⌜ r ≡ up TicksBlocked c ⌝ }
+{
+    let mut d = c;
+    d.blocked = c.blocked + 1;
+    d
+}
+
+fn larger(a: u16, b: u16) -> u16
+    ensures { λ r. ⌜ r ≡ max a b ⌝ }
+{
+    if a < b {
+        return b;
+    }
+    a
+}
+
+// The counts of a job that completes.
+pub fn completed(response: u16, c: Counts) -> Counts
+    requires { ⌜ c .completions < 65535 ⌝ }
+    ensures { λ r. ⌜ r ≡ completed response c ⌝ }
+{
+    let mut d = c;
+    d.completions = c.completions + 1;
+    d.worst = larger(c.worst, response);
+    d
+}
+
+// A job that stands at a step, one that moves on, and none.
+pub fn standing(position: u8, left: u16, release: u16) -> Job
+    ensures { λ r. ⌜ r ≡ standing position left release ⌝ }
+{
+    Job {
+        pending: true,
+        position: position,
+        left: left,
+        release: release,
+    }
+}
+
+pub fn moved_to(position: u8, left: u16, j: Job) -> Job
+    ensures { λ r. ⌜ r ≡ movedTo position left j ⌝ }
+{
+    let mut k = j;
+    k.pending = true;
+    k.position = position;
+    k.left = left;
+    k
+}
+
+pub fn no_job() -> Job
+    ensures { λ r. ⌜ r ≡ noJob ⌝ }
+{
+    Job {
+        pending: false,
+        position: 0,
+        left: 0,
+        release: 0,
+    }
+}
+
+// A task's record that is zero, a run's, and the start.
+pub fn blank() -> TaskRecord
+    ensures { λ r. ⌜ r ≡ blank ⌝ }
+{
+    let j = no_job();
+    let c = counts_of([0; 6]);
+    TaskRecord { job: j, counts: c }
+}
+
+pub fn no_state() -> State
+    ensures { λ r. ⌜ r ≡ noState ⌝ }
+{
+    let z = blank();
+    State {
+        t: 0,
+        switches: 0,
+        last: 0,
+        tasks: [z; 16],
+    }
+}
+
+pub fn start() -> State
+    ensures { λ r. ⌜ r ≡ start ⌝ }
+{
+    let mut st = no_state();
+    st.last = 255;
+    st
+}
+
+// every count and worst response is at most t;
+pub fn counts_fit(t: u16, c: Counts) -> bool
+    ensures { λ r. ⌜ r ≡ countsFit t c ⌝ }
+{
+    let row = counted(c);
+    let mut k: usize = 0;
+    while k < 6 {
+        if t < row[k] {
+            return false;
+        }
+        k += 1;
+    }
+    true
+}
+
+// position, left and release tick zero;
+pub fn zero_place(j: Job) -> bool
+    ensures { λ r. ⌜ r ≡ zeros (place j) ⌝ }
+{
+    if j.position != 0 {
+        return false;
+    }
+    if j.left != 0 {
+        return false;
+    }
+    j.release == 0
+}
+
+// records at n and above are zero;
+pub fn zero_record(x: TaskRecord) -> bool
+    ensures { λ r. ⌜ r ≡ zeroRecord x ⌝ }
+{
+    let j = x.job;
+    if j.pending {
+        return false;
+    }
+    if !zero_place(j) {
+        return false;
+    }
+    // a count that is at most 0 is zero
+    counts_fit(0, x.counts)
+}

@@ -1,0 +1,95 @@
+-- THE FIELDS OF THE RECORD: the one place that lists them. The other chapters name a field only where a rule is about it.
+use Prim.Native.Nat.{ℕ, _+_}
+use mathlib.Core.List.{List, [], _∷_, map}
+use mathlib.Core.Bool.{Bool, true, false, not, _&&_}
+use lib.ListN.{replicate}
+use Rattle.rules.specs.Words.{if_then_else_, _=?_, all}
+use Rattle.rules.specs.declared.Job.{Job}
+use Rattle.rules.specs.declared.Counts.{Counts}
+use Rattle.rules.specs.declared.TaskRecord.{TaskRecord}
+use Rattle.rules.specs.declared.State.{State}
+
+-- The counts of releases, completions, misses, ticks run, ticks blocked, and the worst response: by name,
+pub data Count : Type 0 where
+  Releases Completions Misses TicksRun TicksBlocked WorstResponse : Count
+
+abbrev pub everyCount : List Count
+everyCount = Releases ∷ Completions ∷ Misses ∷ TicksRun ∷ TicksBlocked ∷ WorstResponse ∷ []
+
+-- by the place in that row,
+abbrev pub placeOf : Count → ℕ
+placeOf = elim [ Releases ↦ 0 | Completions ↦ 1 | Misses ↦ 2 | TicksRun ↦ 3 | TicksBlocked ↦ 4 | WorstResponse ↦ 5 ]
+
+-- and as they stand in the record: the count of a name, and the counts that have a value for each name.
+abbrev pub count : Count → Counts → ℕ
+count Releases c = c .releases
+count Completions c = c .completions
+count Misses c = c .misses
+count TicksRun c = c .ran
+count TicksBlocked c = c .blocked
+count WorstResponse c = c .worst
+
+abbrev pub counts : (Count → ℕ) → Counts
+counts f = record {
+  releases = f Releases;
+  completions = f Completions;
+  misses = f Misses;
+  ran = f TicksRun;
+  blocked = f TicksBlocked;
+  worst = f WorstResponse;
+}
+
+-- All of them as a row.
+unfoldable pub counted : Counts → List ℕ
+counted c = map (λ k. count k c) everyCount
+
+-- One count set anew, and one that rises by one; the others stay.
+abbrev pub withCount : Count → (value : ℕ) → Counts → Counts
+withCount k value c = counts λ j. if placeOf j =? placeOf k then value else count j c
+
+abbrev pub up : Count → Counts → Counts
+up k c = withCount k (count k c + 1) c
+
+-- A job that stands at a step with so many ticks left of it; one that moves on, which keeps the rest; and none.
+abbrev pub standing : (position left release : ℕ) → Job
+standing position left release = record { pending = true; position = position; left = left; release = release }
+
+abbrev pub movedTo : (position left : ℕ) → Job → Job
+movedTo position left j = standing position left (j .release)
+
+abbrev pub noJob : Job
+noJob = record { pending = false; position = 0; left = 0; release = 0 }
+
+-- The numbers of a job as a row.
+unfoldable pub place : Job → List ℕ
+place j = j .position ∷ j .left ∷ j .release ∷ []
+
+-- The record of a task: with another job, with other counts, and one that is zero.
+abbrev pub withJob : Job → TaskRecord → TaskRecord
+withJob j r = record { job = j; counts = r .counts }
+
+abbrev pub withCounts : Counts → TaskRecord → TaskRecord
+withCounts c r = record { job = r .job; counts = c }
+
+abbrev pub noCounts : Counts
+noCounts = counts λ k. 0
+
+abbrev pub blank : TaskRecord
+blank = record { job = noJob; counts = noCounts }
+
+unfoldable pub zeros : List ℕ → Bool
+zeros xs = all (λ x. x =? 0) xs
+
+unfoldable pub zeroRecord : TaskRecord → Bool
+zeroRecord r = not (r .job .pending) && zeros (place (r .job)) && zeros (counted (r .counts))
+
+-- The record of a run: with other task records, one that is zero, and the start, where everything is zero, nobody is
+-- pending, and the last runner is 255.
+abbrev pub withTasks : State → List TaskRecord → State
+withTasks st records = record { t = st .t; switches = st .switches; last = st .last; tasks = records }
+
+abbrev pub noState : State
+noState = record { t = 0; switches = 0; last = 0; tasks = replicate 16 blank }
+
+abbrev pub start : State
+start = record { t = 0; switches = 0; last = 255; tasks = replicate 16 blank }
