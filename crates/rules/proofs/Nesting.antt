@@ -2,15 +2,16 @@
 use Prim.Native.Nat.{ℕ, zero, suc, _≤_, _<_}
 use mathlib.Core.Path.{_≡_, refl, sym, ap, ap₂, _∙_, subst}
 use mathlib.Core.Logic.{⊎-elim}
-use mathlib.Core.List.{List, [], _∷_, _++_, reverse, reverse-append, append-assoc, append-nil}
+use mathlib.Core.List.{List, [], _∷_, _++_, reverse-append, append-assoc, append-nil}
 use mathlib.Core.Bool.{Bool, true, false, not, _&&_, _||_, or-false}
 use native.Mathlib.Omega.{arith}
 use lib.ListN.{length, take, drop}
 use borrow.Author.Tests.{eqb-true, eq-eqb, leb-false, le-leb, lt-leb, not-true, not-false}
 use Rattle.rules.specs.Words.{if_then_else_, _≤?_, _=?_, any, among}
 use Rattle.rules.specs.Sheet.{Step, run, lock, unlock, Task, Body, end, aRun, aSection, isLock, without, heldOnTop, held}
-use Rattle.rules.specs.Reading.{read, byte, word, stepOf, misplaced, readSteps, readTask}
-use Rattle.rules.proofs.Reading.{passed, got, task-read}
+use Rattle.rules.specs.Reading.{read, headLength, misplacedIn, afterLock, misplaced, readStep, readSteps, readTask}
+use Rattle.rules.specs.declared.Head.{Head}
+use Rattle.rules.proofs.Reading.{both-read, passed, got, step-passed, task-read}
 use Rattle.rules.proofs.Laws.{true-false, and-left, and-right, or-cases, or-no}
 use Rattle.rules.specs.Laws.{placed, Nesting}
 
@@ -29,17 +30,14 @@ held-snoc before (run n ∷ steps) more = held-snoc before steps more
 held-snoc before (lock s ∷ steps) more = held-snoc (s ∷ before) steps more
 held-snoc before (unlock s ∷ steps) more = held-snoc (without s before) steps more
 
--- was the last step a lock
-unfoldable pub afterLock : List Step → Bool
-afterLock before = any isLock (take 1 (reverse before))
-
+-- behind one more step, whether that is a lock
 pub after-snoc : (before : List Step) (x : Step) → afterLock (before ++ (x ∷ [])) ≡ isLock x
 unfolding afterLock any
 after-snoc before x = rw (reverse-append before (x ∷ [])) (or-false (isLock x))
 
 -- the two tests agree
 placed-nests : (before steps : List Step) → placed before steps ≡ nests (held before) (afterLock before) steps
-unfolding placed nests misplaced held heldOnTop isLock afterLock
+unfolding placed nests misplaced misplacedIn held heldOnTop isLock afterLock
 placed-nests before [] = refl
 placed-nests before (run n ∷ steps) = placed-nests (before ++ (run n ∷ [])) steps ∙ ap₂ (λ (h : List ℕ) (b : Bool). nests h b steps) (held-snoc [] before (run n ∷ [])) (after-snoc before (run n))
 placed-nests before (lock s ∷ steps) = ap (λ (x : Bool). not (misplaced before (lock s)) && x)
@@ -200,14 +198,16 @@ steps-placed m i zero before bytes steps e =
     let end = passed 12 i (length before) (1 ≤? length (held before)) _ steps e in
     ([], sym (append-nil before ∙ got before steps (end .1)), rw (end .0) refl)
 steps-placed m i (suc n) before bytes steps e =
-    let x = stepOf (byte bytes 0) (word bytes 1) in
-    let past11 = passed 11 i (length before) _ _ steps e in
-    let past12 = passed 12 i (length before) _ _ steps (past11 .1) in
-    let r = steps-placed m i n (before ++ (x ∷ [])) (drop 3 bytes) steps (past12 .1) in
-    (x ∷ r .0, r .1 ∙ append-assoc before (x ∷ []) (r .0), not-and (misplaced before x) _ (past12 .0) (r .2))
+    let one = both-read (readStep m i before bytes) _ steps e in
+    let x = one .0 in
+    let r = steps-placed m i n (before ++ (x ∷ [])) (drop 3 bytes) steps (one .2) in
+    let placed = step-passed m i before bytes x (one .1) .placed in
+    (x ∷ r .0, r .1 ∙ append-assoc before (x ∷ []) (r .0), not-and (misplaced before x) _ placed (r .2))
 
 -- so the steps of every task that was read pass
-pub task-placed : (m i : ℕ) (bytes : List ℕ) (x : Task × List ℕ) → readTask m i bytes ≡ read x → placed [] (x .0 .steps) ≡ true
-task-placed m i bytes x e =
-    let r = steps-placed m i (byte bytes 4) [] (drop 5 bytes) (x .0 .steps) (task-read m i bytes x e .steps) in
+pub task-placed : (head : Head) (i : ℕ) (bytes : List ℕ) (x : Task × List ℕ) → readTask head i bytes ≡ read x
+    → placed [] (x .0 .steps) ≡ true
+task-placed head i bytes x e =
+    let τ = task-read head i bytes x e in
+    let r = steps-placed (head .semaphores) i (τ .own .count) [] (drop (headLength head) bytes) (x .0 .steps) (τ .steps) in
     ap (placed []) (r .1) ∙ r .2

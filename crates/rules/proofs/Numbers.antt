@@ -3,17 +3,19 @@ use Prim.Native.Nat.{ℕ, zero, suc, _+_, _≤_, _<_}
 use mathlib.Core.Path.{_≡_, refl}
 use mathlib.Core.Logic.{_⊎_, ⊎-elim}
 use mathlib.Core.List.{List, [], _∷_, _++_}
-use mathlib.Core.Bool.{Bool, true, false, not, _&&_}
+use mathlib.Core.Bool.{Bool, true, false, _&&_}
 use native.Mathlib.Omega.{arith}
 use lib.ListN.{length, drop, length-append}
-use borrow.Author.Tests.{leb-true, not-false}
-use Rattle.rules.specs.Words.{_≤?_, within}
+use borrow.Author.Tests.{leb-true}
+use Rattle.rules.specs.Words.{_≤?_}
 use Rattle.rules.specs.Sheet.{Step}
-use Rattle.rules.specs.Reading.{Reading, read, refused, refusal, _>>=_, refuse_of_at_when_, byte, stepOf, word, readSteps, readTask, readTasks, readSheet}
+use Rattle.rules.specs.Reading.{Reading, read, refused, refusal, _>>=_, refuse_of_at_when_, readHead, headLength, readTaskHead, readStep, readSteps, readTask, readTasks, readSheet}
 use Rattle.rules.specs.Laws.{Given}
 use Rattle.rules.specs.Answers.{why, readTick, readRun}
+use Rattle.rules.specs.declared.Head.{Head}
 use Rattle.rules.specs.declared.State.{State}
 use Rattle.rules.proofs.Laws.{and-left, and-right}
+use Rattle.rules.proofs.Reading.{head-passed, task-head-passed}
 
 -- what was read has no number; a refusal has one, and its place
 abbrev pub Numbered : {A : Type 0} → Reading A → Type 0
@@ -24,6 +26,13 @@ given-bind : {A B : Type 0} (r : Reading A) (f : A → Reading B) → Numbered r
 unfolding _>>=_
 given-bind (read a) f g h = h a
 given-bind (refused x) f g h = g
+
+-- the same, with what was read at hand
+given-read : {A B : Type 0} (r : Reading A) (f : A → Reading B) → Numbered r
+    → ((a : A) → r ≡ read a → Numbered (f a)) → Numbered (r >>= f)
+unfolding _>>=_
+given-read (read a) f g h = h a refl
+given-read (refused x) f g h = g
 
 given-test : {B : Type 0} (number rank step : ℕ) (test : Bool) (rest : Reading B) → Given (refusal number rank step) → (test ≡ false → Numbered rest)
     → Numbered (refuse_of_at_when_ number rank step test >>= λ passed. rest)
@@ -69,48 +78,46 @@ ofWhole number e = let l = from-to 1 17 number e in record {
 }
 
 steps-numbered : (m i n : ℕ) (before : List Step) (bytes : List ℕ) → i < 16 → length before + n ≤ 64 → Numbered (readSteps m i n before bytes)
-unfolding readSteps
+unfolding readSteps readStep
 steps-numbered m i zero before bytes l h = given-test 12 i (length before) _ _ (ofStep 12 i _ refl l (omega arith)) (λ u. tt)
-steps-numbered m i (suc n) before bytes l h =
-    let x = stepOf (byte bytes 0) (word bytes 1) in
-    given-test 11 i (length before) _ _ (ofStep 11 i _ refl l (omega arith)) λ u.
-    given-test 12 i (length before) _ _ (ofStep 12 i _ refl l (omega arith)) λ v.
-    steps-numbered m i n (before ++ (x ∷ [])) (drop 3 bytes) l (omega (arith, length-append before (x ∷ [])))
+steps-numbered m i (suc n) before bytes l h = given-bind (readStep m i before bytes) _
+    (given-test 11 i (length before) _ _ (ofStep 11 i _ refl l (omega arith)) λ u.
+    given-test 12 i (length before) _ _ (ofStep 12 i _ refl l (omega arith)) λ v. tt)
+    (λ x. steps-numbered m i n (before ++ (x ∷ [])) (drop 3 bytes) l (omega (arith, length-append before (x ∷ []))))
 
-task-numbered : (m i : ℕ) (bytes : List ℕ) → i < 16 → Numbered (readTask m i bytes)
-unfolding readTask within
-task-numbered m i bytes l =
-    let count = byte bytes 4 in
-    given-test 7 i 0 _ _ (ofTask 7 i refl l) λ u.
+task-numbered : (head : Head) (i : ℕ) (bytes : List ℕ) → i < 16 → Numbered (readTask head i bytes)
+unfolding readTask readTaskHead
+task-numbered head i bytes l = given-read (readTaskHead head i bytes) _
+    (given-test 7 i 0 _ _ (ofTask 7 i refl l) λ u.
     given-test 8 i 0 _ _ (ofTask 8 i refl l) λ u.
     given-test 9 i 0 _ _ (ofTask 9 i refl l) λ u.
-    given-test 10 i 0 (not (within 1 64 count)) _ (ofTask 10 i refl l) λ some.
-    given-test 7 i 0 _ _ (ofTask 7 i refl l) λ u.
-    given-bind (readSteps m i count [] (drop 5 bytes)) _
-    (steps-numbered m i count [] (drop 5 bytes) l (omega (arith, from-to 1 64 count (not-false (within 1 64 count) some))))
-    (λ steps. tt)
+    given-test 10 i 0 _ _ (ofTask 10 i refl l) λ u.
+    given-test 7 i 0 _ _ (ofTask 7 i refl l) λ u. tt)
+    (λ own e.
+    let few = task-head-passed head i bytes own e .countTo in
+    let rest = drop (headLength head) bytes in
+    given-bind (readSteps (head .semaphores) i (own .count) [] rest) _
+    (steps-numbered (head .semaphores) i (own .count) [] rest l (omega arith)) (λ steps. tt))
 
-tasks-numbered : (m i n : ℕ) (bytes : List ℕ) → i + n ≤ 16 → Numbered (readTasks m i n bytes)
+tasks-numbered : (head : Head) (i n : ℕ) (bytes : List ℕ) → i + n ≤ 16 → Numbered (readTasks head i n bytes)
 unfolding readTasks
-tasks-numbered m i zero bytes l = tt
-tasks-numbered m i (suc n) bytes l =
-    given-bind (readTask m i bytes) _ (task-numbered m i bytes (omega arith))
-    (λ one. given-bind (readTasks m (i + 1) n (one .1)) _ (tasks-numbered m (i + 1) n (one .1) (omega arith)) (λ more. tt))
+tasks-numbered head i zero bytes l = tt
+tasks-numbered head i (suc n) bytes l =
+    given-bind (readTask head i bytes) _ (task-numbered head i bytes (omega arith))
+    (λ one. given-bind (readTasks head (i + 1) n (one .1)) _ (tasks-numbered head (i + 1) n (one .1) (omega arith)) (λ more. tt))
 
 pub sheet-numbered : (bytes : List ℕ) → Numbered (readSheet bytes)
-unfolding readSheet within
-sheet-numbered bytes =
-    let n = byte bytes 5 in
-    let m = byte bytes 6 in
-    given-test 1 0 0 _ _ (ofWhole 1 refl) λ u.
+unfolding readSheet readHead
+sheet-numbered bytes = given-read (readHead bytes) _
+    (given-test 1 0 0 _ _ (ofWhole 1 refl) λ u.
     given-test 2 0 0 _ _ (ofWhole 2 refl) λ u.
     given-test 3 0 0 _ _ (ofWhole 3 refl) λ u.
-    given-test 4 0 0 (not (within 1 16 n)) _ (ofWhole 4 refl) λ few.
+    given-test 4 0 0 _ _ (ofWhole 4 refl) λ u.
     given-test 5 0 0 _ _ (ofWhole 5 refl) λ u.
-    given-test 6 0 0 _ _ (ofWhole 6 refl) λ u.
-    given-bind (readTasks m 0 n (drop 8 bytes)) _
-    (tasks-numbered m 0 n (drop 8 bytes) (omega (arith, from-to 1 16 n (not-false (within 1 16 n) few))))
-    (λ tasks. given-test 13 0 0 _ _ (ofWhole 13 refl) λ u. tt)
+    given-test 6 0 0 _ _ (ofWhole 6 refl) λ u. tt)
+    (λ head e. given-bind (readTasks head 0 (head .n) (drop 8 bytes)) _
+    (tasks-numbered head 0 (head .n) (drop 8 bytes) (omega (arith, head-passed bytes head e .few)))
+    (λ tasks. given-test 13 0 0 _ _ (ofWhole 13 refl) λ u. tt))
 
 pub tick-numbered : (bytes : List ℕ) (st : State) → Numbered (readTick bytes st)
 unfolding readTick

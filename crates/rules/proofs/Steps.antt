@@ -10,6 +10,7 @@ use lib.Seq.{drop-drop, take-add}
 use borrow.Author.Tests.{leb-true, le-leb, eq-eqb, ne-eqb, not-true}
 use Rattle.rules.specs.Words.{_≤?_, _=?_, within, any, among, leading}
 use Rattle.rules.specs.Sheet.{Step, run, lock, unlock, Task, Body, end, aRun, aSection, isRun, isLock, isUnlock, isLockOf, without, heldOnTop, held}
+use Rattle.rules.specs.Reading.{afterLock}
 use Rattle.rules.specs.Record.{behind, ahead, carries, standsWell}
 use Rattle.rules.specs.Choice.{locks, atRun, full}
 use Rattle.rules.specs.Tick.{nextRun, leftOfRun, behindUnlocks, advanced}
@@ -18,7 +19,7 @@ use Rattle.rules.specs.declared.Job.{Job}
 use Rattle.rules.specs.declared.TaskRecord.{TaskRecord}
 use Rattle.rules.proofs.Laws.{true-false, and-left, and-right, and-both, or-right, any-take, any-drop, all-drop}
 use Rattle.rules.proofs.Choice.{among-without, held-locked}
-use Rattle.rules.proofs.Nesting.{nests, held-snoc, afterLock, nests-on}
+use Rattle.rules.proofs.Nesting.{nests, held-snoc, nests-on}
 use Rattle.rules.proofs.Tick.{advanced-cases}
 
 -- an either that is denied

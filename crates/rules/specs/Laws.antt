@@ -9,12 +9,13 @@ use lib.IntN.{ℤ}
 use lib.Signed.{nonNeg}
 use Rattle.rules.specs.Words.{_≤?_}
 use Rattle.rules.specs.Sheet.{Step, run, lock, unlock, Task, Sheet, taskAt, Body, held}
-use Rattle.rules.specs.Reading.{read, misplaced, readSheet}
+use Rattle.rules.specs.Reading.{read, longestSheet, misplaced, readSheet}
 use Rattle.rules.specs.Fields.{start}
 use Rattle.rules.specs.Record.{possible}
 use Rattle.rules.specs.Choice.{Runner, Walks, topJob, runner}
 use Rattle.rules.specs.Tick.{tick}
 use Rattle.rules.specs.Bounds.{demand, laxity}
+use Rattle.rules.specs.declared.Head.{Head}
 use Rattle.rules.specs.declared.Refusal.{Refusal}
 use Rattle.rules.specs.declared.TaskRecord.{TaskRecord}
 use Rattle.rules.specs.declared.State.{State}
@@ -48,7 +49,11 @@ pub record TaskLimits (semaphores : ℕ) (task : Task) : Type 0 where
   pub steps : All (StepLimits semaphores) (task .steps)
   pub body : Body [] (task .steps)
 
--- Document 01's limits on a sheet. The longest has 3,160 bytes.
+-- The longest sheet has 3,160 bytes.
+abbrev pub LongestSheet : Type 0
+LongestSheet = (head : Head) → longestSheet head ≡ 3160
+
+-- Document 01's limits on a sheet.
 pub record Limits (bytes : List ℕ) (sheet : Sheet) : Type 0 where
   pub tasksFrom : 1 ≤ length (sheet .tasks)
   pub tasksTo : length (sheet .tasks) ≤ 16

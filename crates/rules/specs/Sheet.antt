@@ -17,12 +17,13 @@ pub record Task : Type 0 where
   pub steps : List Step
 
 -- The tasks stand by rank: the first has rank 0, the highest. Mode 0 is the ceiling protocol, 1 with the preemption rule.
+-- Any numbers may stand here: those of an accepted sheet keep the limits in Laws.antt.
 pub record Sheet : Type 0 where
   pub mode : ℕ
   pub semaphores : ℕ
   pub tasks : List Task
 
--- The task of a rank.
+-- The task of a rank; past the last one without steps.
 abbrev pub noTask : Task
 noTask = record { period = 0; offset = 0; steps = [] }
 
@@ -50,7 +51,8 @@ isUnlock = elim [ run n ↦ false | lock s ↦ false | unlock s ↦ true ]
 unfoldable pub isLockOf : (s : ℕ) → Step → Bool
 isLockOf s = elim [ run n ↦ false | lock u ↦ u =? s | unlock u ↦ false ]
 
--- What steps have locked and not unlocked, the newest first: on top of what was held before them.
+-- What steps have locked and not unlocked, the newest first: on top of what was held before them. Right only for steps
+-- that pass 12, as those of an accepted sheet do: an unlock is of the newest, and nothing is held twice.
 unfoldable pub without : (s : ℕ) → List ℕ → List ℕ
 without s [] = []
 without s (u ∷ us) = if u =? s then without s us else u ∷ without s us

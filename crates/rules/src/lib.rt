@@ -40,6 +40,13 @@ pub struct Refusal {
     pub step: u8,
 }
 
+// The head of a sheet: how many tasks and semaphores, and the mode.
+pub struct Head {
+    pub n: u8,
+    pub semaphores: u8,
+    pub mode: u8,
+}
+
 // Of a sheet: how many tasks and semaphores, and the mode.
 pub struct Checked {
     pub refusal: Refusal,

@@ -1,19 +1,19 @@
 -- Laws of the nest: what is open by the array, and what steps make of it.
 use Prim.Native.Nat.{ℕ, zero, suc, _+_, _-_, _≤_, _<_}
 use mathlib.Core.Path.{_≡_, refl, sym, ap, ap₂, _∙_, subst}
-use mathlib.Core.List.{List, [], _∷_, _++_, reverse}
+use mathlib.Core.List.{List, [], _∷_, _++_}
 use mathlib.Core.Bool.{Bool, true, false, not, _||_, or-false}
 use native.Mathlib.Omega.{arith}
 use native.Mathlib.Numerals.{add-one}
-use lib.ListN.{length, getD, set, take, length-set}
+use lib.ListN.{length, getD, set, take, length-set, length-append}
 use lib.Seq.{getD-set-same, getD-set-other}
 use borrow.Author.Tests.{eq-eqb, ne-eqb, le-leb, lt-leb, leb-false, not-false}
 use Rattle.rules.specs.Words.{_≤?_, _=?_, any, among}
 use Rattle.rules.specs.Sheet.{Step, run, lock, unlock, isLock, without, heldOnTop, held}
-use Rattle.rules.specs.Reading.{stepOf, misplaced}
+use Rattle.rules.specs.Reading.{stepOf, misplacedIn, afterLock, misplaced}
 use Rattle.rules.proofs.Laws.{true-false, or-no, or-right}
-use Rattle.rules.proofs.Nesting.{held-snoc, afterLock, after-snoc, Distinct, without-newest, newest, or-too}
-use Rattle.sheet.specs.Nesting.{newestFirst, opened, misplacedIn, nestBehind}
+use Rattle.rules.proofs.Nesting.{held-snoc, after-snoc, Distinct, without-newest, newest, or-too}
+use Rattle.sheet.specs.Nesting.{newestFirst, opened, Nests, nestBehind}
 use Rattle.sheet.specs.declared.Nest.{Nest}
 
 pub length-newest : (d : ℕ) (xs : List ℕ) → length (newestFirst d xs) ≡ d
@@ -66,7 +66,10 @@ module _ (x k : ℕ) (hs : List ℕ) (found : Bool) (inv : among x (newestFirst 
 
 -- 12 for a step, test by test
 module _ (q : Nest) (kind value : ℕ) where
-  pub placed-run : kind ≡ 1 → false ≡ misplacedIn q (stepOf kind value)
+  abbrev wrong : Bool
+  wrong = misplacedIn (opened q) (q .locked) (stepOf kind value)
+
+  pub placed-run : kind ≡ 1 → false ≡ wrong
   unfolding stepOf misplacedIn
   placed-run u = rw (eq-eqb kind 1 u) refl
 
@@ -76,18 +79,19 @@ module _ (q : Nest) (kind value : ℕ) where
       unfolding stepOf
       is-lock = rw (ne-eqb kind 1 n, eq-eqb kind 2 u) refl
 
-      pub fifth-level : 4 ≤ q .depth → true ≡ misplacedIn q (stepOf kind value)
+      pub fifth-level : 4 ≤ q .depth → true ≡ wrong
       unfolding misplacedIn
       fifth-level l = rw (is-lock, length-opened q) (sym (or-right (among value (opened q)) _ (le-leb 4 (q .depth) l)))
 
-      pub already-held : q .depth < 4 → (b : Bool) → b ≡ among value (opened q) → b ≡ misplacedIn q (stepOf kind value)
+      pub already-held : q .depth < 4 → (b : Bool) → b ≡ among value (opened q) → b ≡ wrong
       unfolding misplacedIn
       already-held l b e = rw (is-lock, length-opened q, lt-leb 4 (q .depth) l, or-false (among value (opened q))) e
 
-      pub room : misplacedIn q (stepOf kind value) ≡ false → q .depth < 4
+      pub room : wrong ≡ false → q .depth < 4
       unfolding misplacedIn
       room e =
-          let f : (among value (opened q) || 4 ≤? length (opened q)) ≡ false = ap (misplacedIn q) (sym is-lock) ∙ e in
+          let step = ap (misplacedIn (opened q) (q .locked)) (sym is-lock) in
+          let f : (among value (opened q) || 4 ≤? length (opened q)) ≡ false = step ∙ e in
           omega (arith, leb-false 4 (length (opened q)) (or-too (among value (opened q)) _ f), length-opened q)
 
       pub nest-lock : record { held = set (q .held) (q .depth) value; depth = q .depth + 1; locked = true } ≡ nestBehind q (stepOf kind value)
@@ -99,24 +103,24 @@ module _ (q : Nest) (kind value : ℕ) where
       unfolding stepOf
       is-unlock = rw (ne-eqb kind 1 n, ne-eqb kind 2 v) refl
 
-      pub none-open : q .depth < 1 → true ≡ misplacedIn q (stepOf kind value)
+      pub none-open : q .depth < 1 → true ≡ wrong
       unfolding misplacedIn among any
       none-open l = rw (is-unlock, opened-none q l) refl
 
       module _ (l : 1 ≤ q .depth) where
-        pub not-newest : (getD (q .held) (q .depth - 1) 0 ≡ value → ⊥) → true ≡ misplacedIn q (stepOf kind value)
+        pub not-newest : (getD (q .held) (q .depth - 1) 0 ≡ value → ⊥) → true ≡ wrong
         unfolding misplacedIn among any
         not-newest w = rw (is-unlock, opened-first q l, ne-eqb _ _ w) refl
 
-        pub after-lock : getD (q .held) (q .depth - 1) 0 ≡ value → q .locked ≡ misplacedIn q (stepOf kind value)
+        pub after-lock : getD (q .held) (q .depth - 1) 0 ≡ value → q .locked ≡ wrong
         unfolding misplacedIn among any
         after-lock w = rw (is-unlock, opened-first q l, eq-eqb _ _ w) refl
 
-      pub one-open : misplacedIn q (stepOf kind value) ≡ false → 1 ≤ q .depth
+      pub one-open : wrong ≡ false → 1 ≤ q .depth
       one-open e = go (q .depth) refl
         where
           go : (d : ℕ) → q .depth ≡ d → 1 ≤ q .depth
-          go zero z = true-false (misplacedIn q (stepOf kind value)) (sym (none-open (omega arith))) e
+          go zero z = true-false wrong (sym (none-open (omega arith))) e
           go (suc d) z = omega arith
 
       pub nest-unlock : record { held = q .held; depth = q .depth - 1; locked = false } ≡ nestBehind q (stepOf kind value)
@@ -127,24 +131,22 @@ module _ (q : Nest) (kind value : ℕ) where
   unfolding stepOf nestBehind
   nest-run u = rw (eq-eqb kind 1 u) refl
 
--- the nest is that of the steps before: what they hold, no two the same, and whether the last of them is a lock
-pub record Nests (before : List Step) (q : Nest) : Type 0 where
-  pub opens : held before ≡ opened q
-  pub locks : any isLock (take 1 (reverse before)) ≡ q .locked
+-- refusal 12 by the nest is refusal 12 by the steps before
+pub misplaced-in : (before : List Step) (k : ℕ) (q : Nest) (x : Step) → Nests before k q
+    → misplaced before x ≡ misplacedIn (opened q) (q .locked) x
+unfolding misplaced
+misplaced-in before k q x ν = ap₂ (λ (h : List ℕ) (b : Bool). misplacedIn h b x) (ν .opens) (ν .locks)
+
+-- the nest of the steps before holds no semaphore twice, and at most four
+pub record Keeps (before : List Step) (k : ℕ) (q : Nest) : Type 0 where
+  pub nests : Nests before k q
   pub distinct : Distinct (opened q)
   pub few : q .depth ≤ 4
   pub sized : length (q .held) ≡ 4
 
-pub nests-none : Nests [] (record { held = 0 ∷ 0 ∷ 0 ∷ 0 ∷ []; depth = 0; locked = false })
-unfolding opened newestFirst held heldOnTop any
-nests-none = record { opens = refl; locks = refl; distinct = tt; few = omega arith; sized = refl }
-
--- refusal 12 by the nest is refusal 12 by the steps before
-pub misplaced-in : (before : List Step) (q : Nest) (x : Step) → Nests before q → misplaced before x ≡ misplacedIn q x
-unfolding misplaced misplacedIn
-misplaced-in before q (run n) ν = refl
-misplaced-in before q (lock s) ν = ap (λ (h : List ℕ). among s h || 4 ≤? length h) (ν .opens)
-misplaced-in before q (unlock s) ν = ap₂ (λ (h : List ℕ) (b : Bool). not (among s (take 1 h)) || b) (ν .opens) (ν .locks)
+pub keeps-none : Keeps [] 0 (record { held = 0 ∷ 0 ∷ 0 ∷ 0 ∷ []; depth = 0; locked = false })
+unfolding opened newestFirst held heldOnTop afterLock any
+keeps-none = record { nests = record { many = refl; opens = refl; locks = refl }; distinct = tt; few = omega arith; sized = refl }
 
 -- an unlock that is well placed takes the newest away
 popped : (s : ℕ) (h : List ℕ) → Distinct h → not (among s (take 1 h)) ≡ false → (rest : List ℕ) × (h ≡ s ∷ rest) × (without s h ≡ rest) × Distinct rest
@@ -158,37 +160,37 @@ tail : (x y : ℕ) (xs ys : List ℕ) → x ∷ xs ≡ y ∷ ys → xs ≡ ys
 tail x y xs ys e = cc
 
 -- behind a step that is well placed the nest is again that of the steps
-module _ (before : List Step) (q : Nest) (ν : Nests before q) where
-  held-more : (x : Step) → held (before ++ (x ∷ [])) ≡ heldOnTop (opened q) (x ∷ [])
+module _ (before : List Step) (k : ℕ) (q : Nest) (κ : Keeps before k q) where
+  nests-more : (x : Step) (r : Nest) → heldOnTop (opened q) (x ∷ []) ≡ opened r → isLock x ≡ r .locked
+      → Nests (before ++ (x ∷ [])) (k + 1) r
   unfolding held
-  held-more x = held-snoc [] before (x ∷ []) ∙ ap (λ (h : List ℕ). heldOnTop h (x ∷ [])) (ν .opens)
+  nests-more x r h b = record {
+    many = omega (arith, length-append before (x ∷ []), κ .nests .many);
+    opens = held-snoc [] before (x ∷ []) ∙ ap (λ (h : List ℕ). heldOnTop h (x ∷ [])) (κ .nests .opens) ∙ h;
+    locks = after-snoc before x ∙ b;
+  }
 
-  locks-more : (x : Step) → any isLock (take 1 (reverse (before ++ (x ∷ [])))) ≡ isLock x
-  unfolding afterLock
-  locks-more x = after-snoc before x
-
-  pub nests-more : (x : Step) → misplacedIn q x ≡ false → Nests (before ++ (x ∷ [])) (nestBehind q x)
+  pub keeps-more : (x : Step) → misplacedIn (opened q) (q .locked) x ≡ false → Keeps (before ++ (x ∷ [])) (k + 1) (nestBehind q x)
   unfolding nestBehind opened misplacedIn heldOnTop isLock
-  nests-more (run n) e = record { opens = held-more (run n); locks = locks-more (run n); distinct = ν .distinct; few = ν .few; sized = ν .sized }
-  nests-more (lock s) e =
+  keeps-more (run n) e = record { nests = nests-more (run n) _ refl refl; distinct = κ .distinct; few = κ .few; sized = κ .sized }
+  keeps-more (lock s) e =
       let new : among s (opened q) ≡ false = or-no (among s (opened q)) _ e in
       let few : q .depth < 4 = omega (arith, leb-false 4 (length (opened q)) (or-too (among s (opened q)) _ e), length-opened q) in
-      let pushed : newestFirst (q .depth + 1) (set (q .held) (q .depth) s) ≡ s ∷ opened q = newest-pushed (q .depth) s (q .held) (omega (arith, ν .sized)) in
+      let pushed : newestFirst (q .depth + 1) (set (q .held) (q .depth) s) ≡ s ∷ opened q =
+      newest-pushed (q .depth) s (q .held) (omega (arith, κ .sized)) in
       record {
-        opens = held-more (lock s) ∙ sym pushed;
-        locks = locks-more (lock s);
-        distinct = subst Distinct (sym pushed) (new, ν .distinct);
+        nests = nests-more (lock s) _ (sym pushed) refl;
+        distinct = subst Distinct (sym pushed) (new, κ .distinct);
         few = omega arith;
-        sized = length-set (q .held) (q .depth) s ∙ ν .sized;
+        sized = length-set (q .held) (q .depth) s ∙ κ .sized;
       }
-  nests-more (unlock s) e =
-      let pop = popped s (opened q) (ν .distinct) (or-no _ (q .locked) e) in
+  keeps-more (unlock s) e =
+      let pop = popped s (opened q) (κ .distinct) (or-no _ (q .locked) e) in
       let some : q .depth ≡ suc (length (pop .0)) = sym (length-opened q) ∙ ap length (pop .1) in
       let left : pop .0 ≡ newestFirst (q .depth - 1) (q .held) = tail s _ (pop .0) _ (sym (pop .1) ∙ opened-first q (omega arith)) in
       record {
-        opens = held-more (unlock s) ∙ pop .2 ∙ left;
-        locks = locks-more (unlock s);
+        nests = nests-more (unlock s) _ (pop .2 ∙ left) refl;
         distinct = subst Distinct left (pop .3);
-        few = omega (arith, ν .few);
-        sized = ν .sized;
+        few = omega (arith, κ .few);
+        sized = κ .sized;
       }

@@ -3,60 +3,41 @@ use Prim.Native.Nat.{ℕ, suc, _+_, _-_, _*_, _≤_, _<_}
 use mathlib.Core.Path.{_≡_, refl, sym, ap, ap₂, _∙_, subst}
 use mathlib.Core.Logic.{⊎-elim}
 use mathlib.Core.List.{List, [], _∷_, _++_, append-assoc, append-nil}
-use mathlib.Core.Bool.{not}
 use native.Mathlib.Omega.{arith}
+use native.Mathlib.Nat.{add-mul}
 use native.Mathlib.Numerals.{add-one}
 use lib.ListN.{length, getD, set, drop, length-drop, length-set}
 use lib.Seq.{getD-set-same, getD-set-other}
-use borrow.Author.Tests.{le-leb, lt-leb, ltb-false}
-use Rattle.rules.specs.Words.{_<?_, _≤?_, within, row}
+use borrow.Author.Tests.{le-leb, lt-leb}
+use Rattle.rules.specs.Words.{_≤?_, row}
 use Rattle.rules.specs.Sheet.{Task, Sheet}
-use Rattle.rules.specs.Reading.{Reading, read, refused, refusal, _>>=_, refuse_of_at_when_, byte, readTasks, readSheet}
+use Rattle.rules.specs.Reading.{Reading, read, refused, refusal, _>>=_, refuse_of_at_when_, readHead, longestTask, longestSheet, readTasks, readSheet}
 use Rattle.rules.specs.Answers.{why}
-use Rattle.rules.proofs.Reading.{passed, got, within-to}
+use Rattle.rules.proofs.Reading.{both-read, got, head-passed}
+use Rattle.rules.proofs.Limits.{sheet-size}
 use Rattle.rules.specs.Laws.{Given}
 use Rattle.rules.proofs.Numbers.{Numbered, sheet-numbered}
 use Rattle.rules.proofs.Laws.{below, and-at, row-same}
+use Rattle.rules.specs.declared.Head.{Head}
 use Rattle.rules.specs.declared.Refusal.{Refusal}
 use Rattle.table.specs.Table.{taskOf, noEntry, entryOf, sheetOf, Lies}
 use Rattle.table.specs.declared.Entry.{Entry}
 use Rattle.table.specs.declared.Table.{Table}
 use Rattle.table.proofs.Laws.{entry-in, entry-out}
-use Rattle.sheet.specs.Reader.{marked, readHead, headIn, headRefusal, taskIn, taskRefusal, TaskFrom, noEntries, turnedAway, ParsedFrom}
-use Rattle.sheet.specs.declared.Head.{Head}
+use Rattle.sheet.specs.Reader.{headIn, headThere, entryIn, taskIn, TaskFrom, noEntries, turnedAway, ParsedFrom}
 use Rattle.sheet.specs.declared.HeadRead.{HeadRead}
 use Rattle.sheet.specs.declared.HeadRead.the-variants.{Begun, NoHead}
 use Rattle.sheet.specs.declared.TaskRead.{TaskRead}
 use Rattle.sheet.specs.declared.TaskRead.the-variants.{Opened, NoTask}
 use Rattle.sheet.specs.declared.Parsed.{Parsed}
-use Rattle.sheet.proofs.Tests.{stops, goes-on, then-on, then-then, then-same}
+use Rattle.sheet.proofs.Tests.{stops, goes-on, then-then, then-same, was-refused}
 
--- rules' sheet is its head, its tasks and 13
+-- behind its head, the sheet is its tasks and 13
 abbrev sheet-rest : (s : List ℕ) → Head → Reading Sheet
 sheet-rest s h =
-    readTasks (h .semaphores) 0 (h .n) (drop (h .next) s) >>= λ x.
+    readTasks h 0 (h .n) (drop 8 s) >>= λ x.
     refuse_of_at_when_ 13 0 0 (1 ≤? length (x .1)) >>= λ u.
     read (record { mode = h .mode; semaphores = h .semaphores; tasks = x .0 })
-
-sheet-parts : (s : List ℕ) → readSheet s ≡ (readHead s >>= sheet-rest s)
-unfolding readSheet readHead marked _>>=_
-sheet-parts s = sym (then-on 1 0 0 _ _ _ _ (then-on 2 0 0 _ _ _ _ (then-on 3 0 0 _ _ _ _ (then-on 4 0 0 _ _ _ _ (then-on 5 0 0 _ _ _ _ (then-on 6 0 0 _ _ _ _ refl))))))
-
--- what a head that was read went through
-record HeadGood (s : List ℕ) (h : Head) : Type 0 where
-  long : 8 ≤ length s
-  few : h .n ≤ 16
-  next : h .next ≡ 8
-
-head-good : (s : List ℕ) (h : Head) → readHead s ≡ read h → HeadGood s h
-unfolding readHead
-head-good s h e =
-    let past1 = passed 1 0 0 (length s <? 8) _ h e in
-    let past3 = passed 3 0 0 _ _ h (passed 2 0 0 _ _ h (past1 .1) .1) in
-    let past4 = passed 4 0 0 (not (within 1 16 (byte s 5))) _ h (past3 .1) in
-    let past6 = passed 6 0 0 _ _ h (passed 5 0 0 _ _ h (past4 .1) .1) in
-    subst (HeadGood s) (got _ h (past6 .1))
-    (record { long = ltb-false (length s) 8 (past1 .0); few = within-to 1 16 (byte s 5) (past4 .0); next = refl })
 
 -- what the answers say
 pub parsed-refused : (s : List ℕ) (x : Refusal) (r : Parsed) → refused x ≡ readSheet s → r ≡ turnedAway x → ParsedFrom s r
@@ -78,14 +59,16 @@ parsed-away s r π n = go (readSheet s) (π .reason)
     go (read sheet) e = absurd (n (ap (λ (x : Refusal). x .number) e))
     go (refused x) e = ap refused (sym e)
 
-pub head-away : (s : List ℕ) (a : HeadRead) (y x : Refusal) (r : Parsed) → headIn a ≡ readHead s → a ≡ NoHead y → x ≡ headRefusal a → r ≡ turnedAway x → ParsedFrom s r
-unfolding _>>=_
+pub head-away : (s : List ℕ) (a : HeadRead) (y x : Refusal) (r : Parsed) → headIn a ≡ headThere s
+    → a ≡ NoHead y → x ≡ why (headIn a) → r ≡ turnedAway x → ParsedFrom s r
+unfolding headThere readSheet _>>=_ why
 head-away s a y x r ea u v w =
-    let same : x ≡ y = v ∙ ap headRefusal u in
-    parsed-refused s x r (ap refused same ∙ sym (sheet-parts s ∙ ap (λ (t : Reading Head). t >>= sheet-rest s) (sym ea ∙ ap headIn u))) w
+    let away = was-refused (readHead s) _ y (sym (ap headIn u) ∙ ea) in
+    parsed-refused s x r (rw (away, v, u) refl) w
 
-pub head-begun : (s : List ℕ) (a : HeadRead) (h : Head) → headIn a ≡ readHead s → a ≡ Begun h → readHead s ≡ read h
-head-begun s a h ea u = sym ea ∙ ap headIn u
+pub head-begun : (s : List ℕ) (a : HeadRead) (h : Head) (start : ℕ) → headIn a ≡ headThere s → a ≡ Begun h start
+    → headThere s ≡ read (h, start)
+head-begun s a h start ea u = sym ea ∙ ap headIn u
 
 -- the tasks of the first entries
 unfoldable pub taken : (s : List ℕ) → List Entry → (i : ℕ) → List Task
@@ -105,55 +88,61 @@ pub record Taking (s : List ℕ) (h : Head) (entries : List Entry) (p i : ℕ) :
   pub few : h .n ≤ 16
   pub count : i ≤ h .n
   pub inside : p ≤ length s
-  pub near : p ≤ 8 + 197 * i
+  pub near : p ≤ 8 + i * longestTask h
   pub sized : length entries ≡ 16
   pub lies : (j : ℕ) → j < i → Lies s (getD entries j noEntry)
-  pub left : readTasks (h .semaphores) 0 (h .n) (drop (h .next) s) ≡ (readTasks (h .semaphores) i (h .n - i) (drop p s) >>= λ x. read (taken s entries i ++ x .0, x .1))
+  pub left : readTasks h 0 (h .n) (drop 8 s) ≡ (readTasks h i (h .n - i) (drop p s) >>= λ x. read (taken s entries i ++ x .0, x .1))
 
 then-read : {A B : Type 0} (r : Reading (A × B)) → r ≡ (r >>= λ x. read (x .0, x .1))
 unfolding _>>=_
 then-read (read x) = refl
 then-read (refused x) = refl
 
-pub taking-first : (s : List ℕ) (h : Head) (entries : List Entry) → readHead s ≡ read h → entries ≡ noEntries → Taking s h entries (h .next) 0
-unfolding taken row
-taking-first s h entries e u =
-    let γ = head-good s h e in
+pub taking-first : (s : List ℕ) (h : Head) (start : ℕ) (entries : List Entry) → headThere s ≡ read (h, start)
+    → entries ≡ noEntries → Taking s h entries start 0
+unfolding headThere taken row
+taking-first s h start entries e u =
+    let one = both-read (readHead s) _ (h, start) e in
+    let same = got (one .0, 8) (h, start) (one .2) in
+    let head : readHead s ≡ read h = one .1 ∙ ap (λ (x : Head × ℕ). read (x .0)) same in
+    let begins : 8 ≡ start = ap (λ (x : Head × ℕ). x .1) same in
+    let π = head-passed s h head in
     let z : h .n - 0 ≡ h .n = omega arith in
     record {
-      head = e;
-      few = γ .few;
+      head = head;
+      few = π .few;
       count = omega arith;
-      inside = omega (arith, γ .long, γ .next);
-      near = omega (arith, γ .next);
+      inside = omega (arith, π .long);
+      near = omega arith;
       sized = ap length u;
       lies = λ j l. absurd (omega arith);
-      left = then-read _ ∙ ap (λ (k : ℕ). readTasks (h .semaphores) 0 k (drop (h .next) s) >>= λ x. read (x .0, x .1)) (sym z);
+      left = then-read _ ∙ ap₂ (λ (k p : ℕ). readTasks h 0 k (drop p s) >>= λ x. read (x .0, x .1)) (sym z) begins;
     }
 
 module _ (s : List ℕ) (h : Head) (entries : List Entry) (p i : ℕ) (γ : Taking s h entries p i) where
-  abbrev m : ℕ
-  m = h .semaphores
-
   whole : readSheet s ≡ sheet-rest s h
-  unfolding _>>=_
-  whole = sheet-parts s ∙ ap (λ (r : Reading Head). r >>= sheet-rest s) (γ .head)
+  unfolding readSheet _>>=_
+  whole = ap (λ (r : Reading Head). r >>= sheet-rest s) (γ .head)
+
+  -- the next task begins in the longest sheet
+  pub still-near : p ≤ longestSheet h
+  still-near = sheet-size h i p (omega (arith, γ .count, γ .few)) (γ .near)
 
   -- one more turn
-  module _ (l : i < h .n) (a : TaskRead) (τ : TaskFrom m i s p a) where
-    turn : readTasks m i (h .n - i) (drop p s)
-        ≡ (taskIn s a >>= λ x. readTasks m (i + 1) (h .n - (i + 1)) (x .1) >>= λ y. read (x .0 ∷ y .0, y .1))
+  module _ (l : i < h .n) (a : TaskRead) (τ : TaskFrom h i s p a) where
+    turn : readTasks h i (h .n - i) (drop p s)
+        ≡ (taskIn s a >>= λ x. readTasks h (i + 1) (h .n - (i + 1)) (x .1) >>= λ y. read (x .0 ∷ y .0, y .1))
     unfolding readTasks
     turn =
         let z : h .n - i ≡ suc (h .n - (i + 1)) = omega arith in
-        ap (λ (n : ℕ). readTasks m i n (drop p s)) z
-        ∙ ap (λ (r : Reading (Task × List ℕ)). r >>= λ x. readTasks m (i + 1) (h .n - (i + 1)) (x .1) >>= λ y. read (x .0 ∷ y .0, y .1)) (sym (τ .reads))
+        ap (λ (n : ℕ). readTasks h i n (drop p s)) z
+        ∙ ap (λ (r : Reading (Task × List ℕ)). r >>= λ x. readTasks h (i + 1) (h .n - (i + 1)) (x .1) >>= λ y. read (x .0 ∷ y .0, y .1)) (sym (τ .reads))
 
-    pub task-away : (y x : Refusal) (r : Parsed) → a ≡ NoTask y → x ≡ taskRefusal a → r ≡ turnedAway x → ParsedFrom s r
-    unfolding _>>=_
+    pub task-away : (y x : Refusal) (r : Parsed) → a ≡ NoTask y → x ≡ why (entryIn a) → r ≡ turnedAway x → ParsedFrom s r
+    unfolding _>>=_ why
     task-away y x r u v w =
-        let same : x ≡ y = v ∙ ap taskRefusal u in
-        let tasks : readTasks m 0 (h .n) (drop (h .next) s) ≡ refused y = γ .left ∙ rw (turn, u) refl in
+        let same : x ≡ y = v ∙ ap (λ (t : TaskRead). why (entryIn t)) u in
+        let tasks : readTasks h 0 (h .n) (drop 8 s) ≡ refused y = γ .left ∙ rw (turn, u) refl in
         parsed-refused s x r (ap refused same ∙ sym (whole ∙ rw tasks refl)) w
 
     module _ (e : Entry) (next : ℕ) (u : a ≡ Opened e next) where
@@ -162,14 +151,14 @@ module _ (s : List ℕ) (h : Head) (entries : List Entry) (p i : ℕ) (γ : Taki
       taking-more =
           let lies = rw u at (τ .lies) in
           let fits : i < length entries = omega (arith, γ .sized, γ .few) in
-          let more = readTasks m (i + 1) (h .n - (i + 1)) (drop next s) in
-          let here : readTasks m i (h .n - i) (drop p s) ≡ (more >>= λ y. read (taskOf s e ∷ y .0, y .1)) = turn ∙ rw u refl in
+          let more = readTasks h (i + 1) (h .n - (i + 1)) (drop next s) in
+          let here : readTasks h i (h .n - i) (drop p s) ≡ (more >>= λ y. read (taskOf s e ∷ y .0, y .1)) = turn ∙ rw u refl in
           record {
             head = γ .head;
             few = γ .few;
             count = omega arith;
             inside = lies .1;
-            near = omega (arith, lies .2, γ .near);
+            near = omega (arith, lies .2, γ .near, add-mul i 1 (longestTask h));
             sized = length-set entries i e ∙ γ .sized;
             lies = λ j v. and-at (λ j. Lies s (getD (set entries i e) j noEntry)) i
                 (λ j v. subst (Lies s) (sym (getD-set-other entries i j e noEntry (λ z. omega arith))) (γ .lies j v))
@@ -196,8 +185,8 @@ module _ (s : List ℕ) (h : Head) (entries : List Entry) (p i : ℕ) (γ : Taki
     unfolding _>>=_ readTasks sheetOf
     last =
         let z : h .n - i ≡ 0 = omega arith in
-        let tasks : readTasks m 0 (h .n) (drop (h .next) s) ≡ read (sheetOf s table .tasks, drop p s) =
-        γ .left ∙ ap (λ (n : ℕ). readTasks m i n (drop p s) >>= λ x. read (taken s entries i ++ x .0, x .1)) z
+        let tasks : readTasks h 0 (h .n) (drop 8 s) ≡ read (sheetOf s table .tasks, drop p s) =
+        γ .left ∙ ap (λ (n : ℕ). readTasks h i n (drop p s) >>= λ x. read (taken s entries i ++ x .0, x .1)) z
         ∙ ap (λ (ts : List Task). read (ts, drop p s)) (append-nil (taken s entries i) ∙ same-tasks) in
         whole ∙ rw (tasks, length-drop p s) refl
 

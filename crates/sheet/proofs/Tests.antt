@@ -1,16 +1,14 @@
 -- Laws of reading in parts: tests that refuse, tests that are passed, and bytes by a cursor.
-use Prim.Native.Nat.{ℕ, _+_, _-_, _*_, _≤_, _<_}
-use mathlib.Core.Path.{_≡_, refl, sym, ap, ap₂, _∙_}
-use mathlib.Core.Logic.{⊎-elim}
+use Prim.Native.Nat.{ℕ, _+_, _*_, _≤_, _<_}
+use mathlib.Core.Path.{_≡_, refl, ap, ap₂, _∙_}
 use mathlib.Core.List.{List}
 use mathlib.Core.Bool.{Bool, true, false, not}
 use native.Mathlib.Omega.{arith}
-use lib.ListN.{drop}
+use lib.ListN.{length, drop, length-drop}
 use lib.Seq.{getD-drop}
 use borrow.Author.Tests.{lt-ltb, le-ltb, le-leb, lt-leb, eq-eqb, ne-eqb, not-true, not-false}
 use Rattle.rules.specs.Words.{_<?_, _≤?_, within}
 use Rattle.rules.specs.Reading.{Reading, read, refused, refusal, _>>=_, refuse_of_at_when_, byte, word, known}
-use Rattle.rules.proofs.Laws.{below}
 use Rattle.rules.specs.declared.Refusal.{Refusal}
 
 module _ {B : Type 0} (number rank step : ℕ) (test : Bool) (rest : Reading B) where
@@ -23,16 +21,6 @@ module _ {B : Type 0} (number rank step : ℕ) (test : Bool) (rest : Reading B) 
   pub goes-on : (r : Reading B) → test ≡ false → r ≡ rest → r ≡ (refuse_of_at_when_ number rank step test >>= λ u. rest)
   unfolding _>>=_ refuse_of_at_when_
   goes-on r t e = rw t e
-
-  -- what stands behind a test may be read with what follows
-  pub then-on : {C : Type 0} (f : B → Reading C) (more : Reading C) → (rest >>= f) ≡ more
-      → ((refuse_of_at_when_ number rank step test >>= λ u. rest) >>= f) ≡ (refuse_of_at_when_ number rank step test >>= λ u. more)
-  unfolding _>>=_ refuse_of_at_when_
-  then-on f more e = go test
-    where
-      go : (b : Bool) → ((refuse_of_at_when_ number rank step b >>= λ u. rest) >>= f) ≡ (refuse_of_at_when_ number rank step b >>= λ u. more)
-      go true = refl
-      go false = e
 
 -- two readings, the second behind the first
 pub then-then : {A B C : Type 0} (r : Reading A) (f : A → Reading B) (g : B → Reading C) → ((r >>= f) >>= g) ≡ (r >>= λ a. f a >>= g)
@@ -68,15 +56,21 @@ module _ (m kind value : ℕ) where
   unfolding known
   known-below n b e f = rw (ne-eqb kind 1 n, ← e, not-false b f) refl
 
--- too few bytes behind a place
-pub short : (n p k : ℕ) → 1 ≤ k → (n - p <? k) ≡ (n <? p + k)
-short n p k l = ⊎-elim
-    (λ u. lt-ltb (n - p) k (omega arith) ∙ sym (lt-ltb n (p + k) u))
-    (λ u. le-ltb (n - p) k (omega arith) ∙ sym (le-ltb n (p + k) u))
-    (below n (p + k))
+-- what was refused with what follows read was refused
+pub was-refused : {A B : Type 0} (r : Reading A) (f : A → B) (x : Refusal) → refused x ≡ (r >>= λ a. read (f a)) → r ≡ refused x
+unfolding _>>=_
+was-refused (read a) f x e = absurd (let c : _≡_ {A = ℕ} 0 1 = cc in omega arith)
+was-refused (refused y) f x e = let same : y ≡ x = cc in ap refused same
 
 -- bytes by a cursor
 module _ (s : List ℕ) (p : ℕ) where
+  -- fewer than k are left, or not
+  pub too-few : (k : ℕ) → p ≤ length s → length s < p + k → (length (drop p s) <? k) ≡ true
+  too-few k l h = lt-ltb (length (drop p s)) k (omega (arith, length-drop p s))
+
+  pub enough : (k : ℕ) → p + k ≤ length s → (length (drop p s) <? k) ≡ false
+  enough k h = le-ltb (length (drop p s)) k (omega (arith, length-drop p s))
+
   pub byte-from : (k : ℕ) → byte (drop p s) k ≡ byte s (p + k)
   unfolding byte
   byte-from k = getD-drop p s k 0

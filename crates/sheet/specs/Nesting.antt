@@ -1,10 +1,11 @@
 -- The sections that are open while steps are read, as the reader keeps them.
 use Prim.Native.Nat.{ℕ, zero, suc, _+_, _-_}
+use mathlib.Core.Path.{_≡_}
 use mathlib.Core.List.{List, [], _∷_}
-use mathlib.Core.Bool.{Bool, true, false, not, _||_}
-use lib.ListN.{length, getD, set, take}
-use Rattle.rules.specs.Words.{_≤?_, among}
-use Rattle.rules.specs.Sheet.{Step, run, lock, unlock}
+use mathlib.Core.Bool.{true, false}
+use lib.ListN.{length, getD, set}
+use Rattle.rules.specs.Sheet.{Step, run, lock, unlock, held}
+use Rattle.rules.specs.Reading.{afterLock}
 use Rattle.sheet.specs.declared.Nest.{Nest}
 
 -- The first d of some numbers, the newest first.
@@ -16,11 +17,11 @@ newestFirst (suc d) xs = getD xs d 0 ∷ newestFirst d xs
 unfoldable pub opened : Nest → List ℕ
 opened nest = newestFirst (nest .depth) (nest .held)
 
--- Refusal 12 for a step, said of the nest.
-unfoldable pub misplacedIn : Nest → Step → Bool
-misplacedIn nest (run n) = false
-misplacedIn nest (lock s) = among s (opened nest) || 4 ≤? length (opened nest)
-misplacedIn nest (unlock s) = not (among s (take 1 (opened nest))) || nest .locked
+-- The nest is that of the k steps before: what they hold, and whether the last of them is a lock.
+pub record Nests (before : List Step) (k : ℕ) (nest : Nest) : Type 0 where
+  pub many : length before ≡ k
+  pub opens : held before ≡ opened nest
+  pub locks : afterLock before ≡ nest .locked
 
 -- The nest behind a step that is well placed.
 unfoldable pub nestBehind : Nest → Step → Nest

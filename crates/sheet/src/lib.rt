@@ -1,28 +1,24 @@
 // The reader of task sheets: bytes give a table or a refusal.
-// Each reading step answers a value with the next cursor, or a refusal: specs/Reader.antt says what the answers mean.
+// Each reading step answers a value with the next cursor, or a refusal: specs/Reader.antt says what the answers mean, and
+// what is read stands in the rules.
 ghost use mathlib.Core.Path.{_≡_};
 ghost use mathlib.Core.Bool.{false};
-ghost use Prim.Native.Nat.{_+_, _≤_};
-ghost use lib.ListN.{length, drop};
+ghost use Prim.Native.Nat.{_+_, _≤_, _<_};
+ghost use lib.ListN.{length};
 ghost use Rattle.rules.specs.Words.{within, among};
-ghost use Rattle.rules.specs.Reading.{read, refusal, stepOf, known};
+ghost use Rattle.rules.specs.Reading.{read, refusal, byte, marked, headLength, longestSheet, stepOf, known, misplacedIn};
+ghost use Rattle.rules.specs.Answers.{why};
 ghost use Rattle.table.specs.Table.{Lies};
-ghost use Rattle.sheet.specs.Nesting.{opened, misplacedIn, nestBehind};
-ghost use Rattle.sheet.specs.Reader.{marked, readHead, headIn, headRefusal, readStep, stepIn, stepRefusal, readTaskHead, readStepsOf, entryIn, taskRefusal, TaskFrom, noEntries, turnedAway, ParsedFrom};
+ghost use Rattle.sheet.specs.Nesting.{opened, nestBehind};
+ghost use Rattle.sheet.specs.Reader.{headIn, headThere, stepIn, StepFrom, entryIn, entryThere, stepsThere, TaskFrom, noEntries, turnedAway, ParsedFrom};
+use rules::Head;
 use rules::Refusal;
 use table::Entry;
 use table::Table;
 
-// The head of a sheet, and where its tasks begin.
-pub struct Head {
-    pub n: u8,
-    pub semaphores: u8,
-    pub mode: u8,
-    pub next: usize,
-}
-
+// The head of a sheet, and the place behind it.
 pub enum HeadRead {
-    Begun(Head),
+    Begun(Head, usize),
     NoHead(Refusal),
 }
 
@@ -32,9 +28,9 @@ pub enum TaskRead {
     NoTask(Refusal),
 }
 
-// A step's kind and value.
+// A step's kind and value, and the place behind it.
 pub enum StepRead {
-    Placed(u8, u16),
+    Placed(u8, u16, usize),
     NoStep(Refusal),
 }
 
@@ -70,23 +66,31 @@ fn within(low: u16, high: u16, x: u16) -> bool
     x <= high
 }
 
+// The byte at a place.
+fn byte_at(s: &[u8], at: usize) -> u8
+    requires { ⌜ at < length (now s) ⌝ }
+    ensures { λ r. ⌜ r ≡ byte (now (s .entry)) at ⌝ }
+{
+    s[at]
+}
+
 // The mark is "LTS".
 fn is_marked(s: &[u8]) -> bool
     requires { ⌜ 8 ≤ length (now s) ⌝ }
     ensures { λ r. ⌜ r ≡ marked (now (s .entry)) ⌝ }
 {
-    if s[0] != 0x4C {
+    if byte_at(s, 0) != 0x4C {
         return false;
     }
-    if s[1] != 0x54 {
+    if byte_at(s, 1) != 0x54 {
         return false;
     }
-    s[2] == 0x53
+    byte_at(s, 2) == 0x53
 }
 
 // The head: 1 to 6 in turn.
 fn read_head(s: &[u8]) -> HeadRead
-    ensures { λ r. ⌜ headIn r ≡ readHead (now (s .entry)) ⌝ }
+    ensures { λ r. ⌜ headIn r ≡ headThere (now (s .entry)) ⌝ }
 {
     if s.len() < 8 {
         return HeadRead::NoHead(refusal(1, 0, 0));
@@ -97,9 +101,9 @@ fn read_head(s: &[u8]) -> HeadRead
     if table::word_at(s, 3) != 1 {
         return HeadRead::NoHead(refusal(3, 0, 0));
     }
-    let n = s[5];
-    let m = s[6];
-    let mode = s[7];
+    let n = byte_at(s, 5);
+    let m = byte_at(s, 6);
+    let mode = byte_at(s, 7);
     if !within(1, 16, n as u16) {
         return HeadRead::NoHead(refusal(4, 0, 0));
     }
@@ -109,12 +113,12 @@ fn read_head(s: &[u8]) -> HeadRead
     if 1 < mode {
         return HeadRead::NoHead(refusal(6, 0, 0));
     }
-    HeadRead::Begun(Head {
+    let h = Head {
         n: n,
         semaphores: m,
         mode: mode,
-        next: 8,
-    })
+    };
+    HeadRead::Begun(h, 8)
 }
 
 // 11: a step's kind unknown or its value out of range.
@@ -148,7 +152,7 @@ fn is_open(nest: Nest, x: u16) -> bool
 // 12: lock of a semaphore already held, fifth level, unlock of any but the newest held, unlock directly after a lock.
 fn is_misplaced(nest: Nest, kind: u8, value: u16) -> bool
     requires { ⌜ nest .depth ≤ 4 ⌝ }
-    ensures { λ r. ⌜ r ≡ misplacedIn nest (stepOf kind value) ⌝ }
+    ensures { λ r. ⌜ r ≡ misplacedIn (opened nest) (nest .locked) (stepOf kind value) ⌝ }
 {
     let d = nest.depth;
     if kind == 1 {
@@ -172,7 +176,7 @@ fn is_misplaced(nest: Nest, kind: u8, value: u16) -> bool
 // The nest behind a step that is well placed.
 fn nested(nest: Nest, kind: u8, value: u16) -> Nest
     requires { ⌜ nest .depth ≤ 4 ⌝ }
-    requires { ⌜ misplacedIn nest (stepOf kind value) ≡ false ⌝ }
+    requires { ⌜ misplacedIn (opened nest) (nest .locked) (stepOf kind value) ≡ false ⌝ }
     ensures { λ r. ⌜ r ≡ nestBehind nest (stepOf kind value) ⌝ }
 {
     let d = nest.depth;
@@ -196,9 +200,9 @@ fn nested(nest: Nest, kind: u8, value: u16) -> Nest
 fn read_step(s: &[u8], at: usize, m: u8, i: u8, k: u8, nest: Nest) -> StepRead
     requires { ⌜ at + 3 ≤ length (now s) ⌝ }
     requires { ⌜ nest .depth ≤ 4 ⌝ }
-    ensures { λ r. ⌜ stepIn r ≡ readStep m i k nest (drop at (now (s .entry))) ⌝ }
+    ensures { λ r. ⌜ StepFrom m i k nest (now (s .entry)) at r ⌝ }
 {
-    let kind = s[at];
+    let kind = byte_at(s, at);
     let value = table::word_at(s, at + 1);
     if !is_known(m, kind, value) {
         return StepRead::NoStep(refusal(11, i, k));
@@ -206,23 +210,25 @@ fn read_step(s: &[u8], at: usize, m: u8, i: u8, k: u8, nest: Nest) -> StepRead
     if is_misplaced(nest, kind, value) {
         return StepRead::NoStep(refusal(12, i, k));
     }
-    StepRead::Placed(kind, value)
+    let next = at + 3;
+    StepRead::Placed(kind, value, next)
 }
 
 // The refusal that an answer is, for the branch of a let-else that does not bind it.
 fn step_refusal(a: StepRead) -> Refusal
-    ensures { λ r. ⌜ r ≡ stepRefusal a ⌝ }
+    ensures { λ r. ⌜ r ≡ why (stepIn a) ⌝ }
 {
     match a {
-        StepRead::Placed(_, _) => refusal(0, 0, 0),
+        StepRead::Placed(_, _, _) => refusal(0, 0, 0),
         StepRead::NoStep(x) => x,
     }
 }
 
 // The steps of task i, one by one; at the end 12 for sections open.
-fn read_steps(s: &[u8], m: u8, i: u8, e: Entry) -> TaskRead
+fn read_steps(s: &[u8], start: usize, m: u8, i: u8, e: Entry) -> TaskRead
     requires { ⌜ Lies (now s) e ⌝ }
-    ensures { λ r. ⌜ entryIn r ≡ readStepsOf m i (now (s .entry)) e ⌝ }
+    requires { ⌜ start ≡ e .at ⌝ }
+    ensures { λ r. ⌜ entryIn r ≡ stepsThere m i (now (s .entry)) e ⌝ }
 {
     let mut nest = Nest {
         held: [0; 4],
@@ -230,16 +236,16 @@ fn read_steps(s: &[u8], m: u8, i: u8, e: Entry) -> TaskRead
         locked: false,
     };
     let count = e.count;
-    let mut at = e.at as usize;
+    let mut at = start;
     let mut k: u8 = 0;
     while k < count {
         let a = read_step(s, at, m, i, k, nest);
-        let StepRead::Placed(kind, value) = a else {
+        let StepRead::Placed(kind, value, next) = a else {
             return TaskRead::NoTask(step_refusal(a));
         };
-        let next = nested(nest, kind, value);
-        nest = next;
-        at += 3;
+        let more = nested(nest, kind, value);
+        nest = more;
+        at = next;
         k += 1;
     }
     if 0 < nest.depth {
@@ -248,13 +254,22 @@ fn read_steps(s: &[u8], m: u8, i: u8, e: Entry) -> TaskRead
     TaskRead::Opened(e, at)
 }
 
-// The head of task i: 7 for the head, 8, 9, 10.
-fn read_task_head(s: &[u8], at: usize, i: u8) -> TaskRead
-    requires { ⌜ at ≤ length (now s) ⌝ }
-    requires { ⌜ at ≤ 3160 ⌝ }
-    ensures { λ r. ⌜ entryIn r ≡ readTaskHead i (now (s .entry)) at ⌝ }
+// The place behind the head of a task at a place: the code has the head's length here alone.
+fn behind_head(at: usize, h: Head) -> usize
+    requires { ⌜ at ≤ longestSheet h ⌝ }
+    ensures { λ r. ⌜ (r ≡ at + headLength h) × (r < 65536) ⌝ }
 {
-    if s.len() < at + 5 {
+    at + 5
+}
+
+// The head of task i: 7 for the head, 8, 9, 10, 7 for the steps.
+fn read_task_head(s: &[u8], at: usize, h: Head, i: u8) -> TaskRead
+    requires { ⌜ at ≤ length (now s) ⌝ }
+    requires { ⌜ at ≤ longestSheet h ⌝ }
+    ensures { λ r. ⌜ entryIn r ≡ entryThere h i (now (s .entry)) at ⌝ }
+{
+    let start = behind_head(at, h);
+    if s.len() < start {
         return TaskRead::NoTask(refusal(7, i, 0));
     }
     let period = table::word_at(s, at);
@@ -265,38 +280,38 @@ fn read_task_head(s: &[u8], at: usize, i: u8) -> TaskRead
     if period <= offset {
         return TaskRead::NoTask(refusal(9, i, 0));
     }
-    let count = s[at + 4];
+    let count = byte_at(s, at + 4);
     if !within(1, 64, count as u16) {
         return TaskRead::NoTask(refusal(10, i, 0));
     }
-    let next = at + 5;
+    if s.len() < start + 3 * (count as usize) {
+        return TaskRead::NoTask(refusal(7, i, 0));
+    }
+    let place = start as u16;
     let e = Entry {
         period: period,
         offset: offset,
-        at: next as u16,
+        at: place,
         count: count,
     };
-    TaskRead::Opened(e, next)
+    TaskRead::Opened(e, start)
 }
 
-// Task i: its head, 7 for the steps, then the steps.
-fn read_task(s: &[u8], at: usize, m: u8, i: u8) -> TaskRead
+// Task i: its head, then its steps.
+fn read_task(s: &[u8], at: usize, h: Head, i: u8) -> TaskRead
     requires { ⌜ at ≤ length (now s) ⌝ }
-    requires { ⌜ at ≤ 3160 ⌝ }
-    ensures { λ r. ⌜ TaskFrom m i (now (s .entry)) at r ⌝ }
+    requires { ⌜ at ≤ longestSheet h ⌝ }
+    ensures { λ r. ⌜ TaskFrom h i (now (s .entry)) at r ⌝ }
 {
-    let a = read_task_head(s, at, i);
-    let TaskRead::Opened(e, next) = a else {
+    let a = read_task_head(s, at, h, i);
+    let TaskRead::Opened(e, start) = a else {
         return a;
     };
-    if s.len() < next + 3 * (e.count as usize) {
-        return TaskRead::NoTask(refusal(7, i, 0));
-    }
-    read_steps(s, m, i, e)
+    read_steps(s, start, h.semaphores, i, e)
 }
 
 fn task_refusal(a: TaskRead) -> Refusal
-    ensures { λ r. ⌜ r ≡ taskRefusal a ⌝ }
+    ensures { λ r. ⌜ r ≡ why (entryIn a) ⌝ }
 {
     match a {
         TaskRead::Opened(_, _) => refusal(0, 0, 0),
@@ -335,17 +350,16 @@ fn refused(x: Refusal) -> Parsed
 }
 
 // The tasks behind the head, by rank; then 13.
-fn read_tasks(s: &[u8], h: Head) -> Parsed
-    requires { ⌜ readHead (now s) ≡ read h ⌝ }
+fn read_tasks(s: &[u8], start: usize, h: Head) -> Parsed
+    requires { ⌜ headThere (now s) ≡ read (h, start) ⌝ }
     ensures { λ r. ⌜ ParsedFrom (now (s .entry)) r ⌝ }
 {
     let mut entries = no_entries();
     let n = h.n;
-    let m = h.semaphores;
-    let mut at = h.next;
+    let mut at = start;
     let mut i: u8 = 0;
     while i < n {
-        let a = read_task(s, at, m, i);
+        let a = read_task(s, at, h, i);
         let TaskRead::Opened(e, next) = a else {
             return refused(task_refusal(a));
         };
@@ -360,7 +374,7 @@ fn read_tasks(s: &[u8], h: Head) -> Parsed
     let x = refusal(0, 0, 0);
     let table = Table {
         n: n,
-        semaphores: m,
+        semaphores: h.semaphores,
         mode: h.mode,
         entries: entries,
     };
@@ -371,10 +385,10 @@ fn read_tasks(s: &[u8], h: Head) -> Parsed
 }
 
 fn head_refusal(a: HeadRead) -> Refusal
-    ensures { λ r. ⌜ r ≡ headRefusal a ⌝ }
+    ensures { λ r. ⌜ r ≡ why (headIn a) ⌝ }
 {
     match a {
-        HeadRead::Begun(_) => refusal(0, 0, 0),
+        HeadRead::Begun(_, _) => refusal(0, 0, 0),
         HeadRead::NoHead(x) => x,
     }
 }
@@ -384,8 +398,8 @@ pub fn read_sheet(s: &[u8]) -> Parsed
     ensures { λ r. ⌜ ParsedFrom (now (s .entry)) r ⌝ }
 {
     let a = read_head(s);
-    let HeadRead::Begun(h) = a else {
+    let HeadRead::Begun(h, start) = a else {
         return refused(head_refusal(a));
     };
-    read_tasks(s, h)
+    read_tasks(s, start, h)
 }

@@ -1,6 +1,8 @@
 use mathlib.Core.Path.{ap, sym, _∙_}
 use borrow.Author.Needs.{needs}
-use Rattle.sheet.specs.Reader.{headRefusal}
+use Rattle.rules.specs.Answers.{why}
+use Rattle.sheet.specs.Reader.{headIn}
+use Rattle.sheet.specs.declared.HeadRead.{HeadRead}
 use Rattle.sheet.proofs.head_refusal.Statement.{statement}
 use Rattle.sheet.proofs.head_refusal.Tie as tie
 
@@ -14,9 +16,11 @@ enum-known-a : tie.Need-enum-known-a
 enum-known-a c = search needs
 
 returns : tie.Need-returns
-returns c = c .refusal .ensures ∙ sym (ap headRefusal (c .before .enum-told .given .1))
+unfolding why
+returns c = c .refusal .ensures ∙ sym (ap (λ (a : HeadRead). why (headIn a)) (c .before .enum-told .given .1))
 
 returns-2 : tie.Need-returns-2
+unfolding why
 returns-2 c = search needs
 
 pub head-refusal-spec : {M : Type 1} → statement M

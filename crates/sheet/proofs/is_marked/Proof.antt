@@ -1,37 +1,33 @@
 use borrow.Author.Needs.{needs}
-use Rattle.rules.specs.Reading.{byte}
 use Rattle.sheet.proofs.Heads.{mark-1, mark-2, mark-3}
 use Rattle.sheet.proofs.is_marked.Statement.{statement}
 use Rattle.sheet.proofs.is_marked.Tie as tie
 
-shared-slice-read-if1 : tie.Need-shared-slice-read-if1
-shared-slice-read-if1 c = search needs
+byte-at-requires : tie.Need-byte-at-requires
+byte-at-requires c κs = search needs
 
 returns : tie.Need-returns
-unfolding byte
 returns c = search mark-1
 
-shared-slice-read-if2 : tie.Need-shared-slice-read-if2
-shared-slice-read-if2 c = search needs
+byte-at-requires-2 : tie.Need-byte-at-requires-2
+byte-at-requires-2 c κs = search needs
 
 returns-2 : tie.Need-returns-2
-unfolding byte
 returns-2 c = search mark-2
 
-shared-slice-read-result : tie.Need-shared-slice-read-result
-shared-slice-read-result c = search needs
+byte-at-requires-3 : tie.Need-byte-at-requires-3
+byte-at-requires-3 c κs = search needs
 
 returns-3 : tie.Need-returns-3
-unfolding byte
 returns-3 c = search mark-3
 
 pub is-marked-spec : {M : Type 1} → statement M
 is-marked-spec =
     tie.close
     (tie.spec
-    shared-slice-read-if1
+    byte-at-requires
     returns
-    shared-slice-read-if2
+    byte-at-requires-2
     returns-2
-    shared-slice-read-result
+    byte-at-requires-3
     returns-3)

@@ -1,6 +1,4 @@
-use native.Mathlib.Omega.{arith}
 use borrow.Author.Needs.{needs}
-use Rattle.rules.specs.Reading.{byte}
 use Rattle.sheet.proofs.Heads.{head-1, head-2, head-3, head-4, head-5, head-6, head-good}
 use Rattle.sheet.proofs.read_head.Statement.{statement}
 use Rattle.sheet.proofs.read_head.Tie as tie
@@ -29,17 +27,17 @@ refusal-requires-3 c κs = search needs
 returns-3 : tie.Need-returns-3
 returns-3 c = search head-3
 
-shared-slice-read-n : tie.Need-shared-slice-read-n
-shared-slice-read-n c = search needs
+byte-at-requires : tie.Need-byte-at-requires
+byte-at-requires c κs = search needs
 
-shared-slice-read-m : tie.Need-shared-slice-read-m
-shared-slice-read-m c = search needs
+byte-at-requires-2 : tie.Need-byte-at-requires-2
+byte-at-requires-2 c κs = search needs
 
-shared-slice-read-mode : tie.Need-shared-slice-read-mode
-shared-slice-read-mode c = search needs
+byte-at-requires-3 : tie.Need-byte-at-requires-3
+byte-at-requires-3 c κs = search needs
 
 cast-within : tie.Need-cast-within
-cast-within c = omega (arith, c .before .before .shared-slice-known2 .given 5)
+cast-within c = search needs
 
 within-requires : tie.Need-within-requires
 within-requires c κs = search needs
@@ -48,25 +46,21 @@ refusal-requires-4 : tie.Need-refusal-requires-4
 refusal-requires-4 c κs = search needs
 
 returns-4 : tie.Need-returns-4
-unfolding byte
 returns-4 c = search head-4
 
 refusal-requires-5 : tie.Need-refusal-requires-5
 refusal-requires-5 c κs = search needs
 
 returns-5 : tie.Need-returns-5
-unfolding byte
 returns-5 c = search head-5
 
 refusal-requires-6 : tie.Need-refusal-requires-6
 refusal-requires-6 c κs = search needs
 
 returns-6 : tie.Need-returns-6
-unfolding byte
 returns-6 c = search head-6
 
 returns-7 : tie.Need-returns-7
-unfolding byte
 returns-7 c = search head-good
 
 pub read-head-spec : {M : Type 1} → statement M
@@ -81,9 +75,9 @@ read-head-spec =
     word-at-requires
     refusal-requires-3
     returns-3
-    shared-slice-read-n
-    shared-slice-read-m
-    shared-slice-read-mode
+    byte-at-requires
+    byte-at-requires-2
+    byte-at-requires-3
     cast-within
     within-requires
     refusal-requires-4

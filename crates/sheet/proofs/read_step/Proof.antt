@@ -1,11 +1,10 @@
 use borrow.Author.Needs.{needs}
-use Rattle.rules.specs.Reading.{byte}
 use Rattle.sheet.proofs.Steps.{step-11, step-12, step-placed}
 use Rattle.sheet.proofs.read_step.Statement.{statement}
 use Rattle.sheet.proofs.read_step.Tie as tie
 
-shared-slice-read-kind : tie.Need-shared-slice-read-kind
-shared-slice-read-kind c = search needs
+byte-at-requires : tie.Need-byte-at-requires
+byte-at-requires c κs = search needs
 
 add-word-at : tie.Need-add-word-at
 add-word-at c = search needs
@@ -20,7 +19,6 @@ refusal-requires : tie.Need-refusal-requires
 refusal-requires c κs = search needs
 
 returns : tie.Need-returns
-unfolding byte
 returns c = search step-11
 
 is-misplaced-requires : tie.Need-is-misplaced-requires
@@ -30,18 +28,19 @@ refusal-requires-2 : tie.Need-refusal-requires-2
 refusal-requires-2 c κs = search needs
 
 returns-2 : tie.Need-returns-2
-unfolding byte
 returns-2 c = search step-12
 
+add-next : tie.Need-add-next
+add-next c = search needs
+
 returns-3 : tie.Need-returns-3
-unfolding byte
 returns-3 c = search step-placed
 
 pub read-step-spec : {M : Type 1} → statement M
 read-step-spec =
     tie.close
     (tie.spec
-    shared-slice-read-kind
+    byte-at-requires
     add-word-at
     word-at-requires
     is-known-requires
@@ -50,4 +49,5 @@ read-step-spec =
     is-misplaced-requires
     refusal-requires-2
     returns-2
+    add-next
     returns-3)

@@ -6,16 +6,13 @@ use Rattle.sheet.proofs.read_steps.Statement.{statement}
 use Rattle.sheet.proofs.read_steps.Tie as tie
 
 abbrev Inv-loop : tie.InvT-loop
-Inv-loop s m i e nest₀ count at₀ k₀ nest at k = Going m i s e nest at k
+Inv-loop s start m i e nest₀ count at₀ k₀ nest at k = Going m i s e nest at k
 
 abbrev μ-loop : tie.MeasureT-loop
-μ-loop s m i e nest₀ count at₀ k₀ nest at k = count - k
-
-cast-at : tie.Need-cast-at Inv-loop μ-loop
-cast-at c = search needs
+μ-loop s start m i e nest₀ count at₀ k₀ nest at k = count - k
 
 loop-holds : tie.Need-loop-holds Inv-loop μ-loop
-loop-holds c = let a = c .before .before .args in going-first (a .m) (a .i) (a .s .now) (a .e)
+loop-holds c = search going-first
 
 read-step-requires : tie.Need-read-step-requires Inv-loop μ-loop
 read-step-requires c κs = omega arith
@@ -34,9 +31,6 @@ returns c = search steps-refused
 
 nested-requires : tie.Need-nested-requires Inv-loop μ-loop
 nested-requires c κs = (omega arith, search placed-here)
-
-add-at : tie.Need-add-at Inv-loop μ-loop
-add-at c = omega arith
 
 add-k : tie.Need-add-k Inv-loop μ-loop
 add-k c = omega arith
@@ -62,7 +56,6 @@ read-steps-spec =
     (tie.spec
     Inv-loop
     μ-loop
-    cast-at
     loop-holds
     read-step-requires
     enum-known-a
@@ -70,7 +63,6 @@ read-steps-spec =
     step-refusal-requires
     returns
     nested-requires
-    add-at
     add-k
     loop-less
     loop-again

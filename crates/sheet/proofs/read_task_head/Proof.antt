@@ -1,13 +1,10 @@
-use Prim.Native.Nat.{_+_}
-use native.Mathlib.Omega.{arith}
 use borrow.Author.Needs.{needs}
-use Rattle.rules.specs.Reading.{byte}
-use Rattle.sheet.proofs.Tasks.{task-7, task-8, task-9, task-10, task-good}
+use Rattle.sheet.proofs.Tasks.{period-inside, offset-inside, count-inside, task-7, task-8, task-9, task-10, steps-7, task-good}
 use Rattle.sheet.proofs.read_task_head.Statement.{statement}
 use Rattle.sheet.proofs.read_task_head.Tie as tie
 
-add-if1 : tie.Need-add-if1
-add-if1 c = search needs
+behind-head-requires : tie.Need-behind-head-requires
+behind-head-requires c κs = search needs
 
 refusal-requires : tie.Need-refusal-requires
 refusal-requires c κs = search needs
@@ -16,7 +13,7 @@ returns : tie.Need-returns
 returns c = search task-7
 
 word-at-requires : tie.Need-word-at-requires
-word-at-requires c κs = search needs
+word-at-requires c κs = search period-inside
 
 within-requires : tie.Need-within-requires
 within-requires c κs = search needs
@@ -31,7 +28,7 @@ add-word-at : tie.Need-add-word-at
 add-word-at c = search needs
 
 word-at-requires-2 : tie.Need-word-at-requires-2
-word-at-requires-2 c κs = search needs
+word-at-requires-2 c κs = search offset-inside
 
 refusal-requires-3 : tie.Need-refusal-requires-3
 refusal-requires-3 c κs = search needs
@@ -39,14 +36,14 @@ refusal-requires-3 c κs = search needs
 returns-3 : tie.Need-returns-3
 returns-3 c = search task-9
 
-add-count : tie.Need-add-count
-add-count c = search needs
+add-byte-at : tie.Need-add-byte-at
+add-byte-at c = search needs
 
-shared-slice-read-count : tie.Need-shared-slice-read-count
-shared-slice-read-count c = search needs
+byte-at-requires : tie.Need-byte-at-requires
+byte-at-requires c κs = search count-inside
 
 cast-within : tie.Need-cast-within
-cast-within c = let a = c .before .before .before .before .before .before .before .before .args in omega (arith, c .shared-slice-known2 .given (a .at + 4))
+cast-within c = search needs
 
 within-requires-2 : tie.Need-within-requires-2
 within-requires-2 c κs = search needs
@@ -55,24 +52,34 @@ refusal-requires-4 : tie.Need-refusal-requires-4
 refusal-requires-4 c κs = search needs
 
 returns-4 : tie.Need-returns-4
-unfolding byte
 returns-4 c = search task-10
 
-add-next : tie.Need-add-next
-add-next c = search needs
+cast-if5 : tie.Need-cast-if5
+cast-if5 c = search needs
 
-cast-t18 : tie.Need-cast-t18
-cast-t18 c = search needs
+mul-if5 : tie.Need-mul-if5
+mul-if5 c = search needs
+
+add-if5 : tie.Need-add-if5
+add-if5 c = search needs
+
+refusal-requires-5 : tie.Need-refusal-requires-5
+refusal-requires-5 c κs = search needs
 
 returns-5 : tie.Need-returns-5
-unfolding byte
-returns-5 c = search task-good
+returns-5 c = search steps-7
+
+cast-place : tie.Need-cast-place
+cast-place c = search needs
+
+returns-6 : tie.Need-returns-6
+returns-6 c = search task-good
 
 pub read-task-head-spec : {M : Type 1} → statement M
 read-task-head-spec =
     tie.close
     (tie.spec
-    add-if1
+    behind-head-requires
     refusal-requires
     returns
     word-at-requires
@@ -83,12 +90,16 @@ read-task-head-spec =
     word-at-requires-2
     refusal-requires-3
     returns-3
-    add-count
-    shared-slice-read-count
+    add-byte-at
+    byte-at-requires
     cast-within
     within-requires-2
     refusal-requires-4
     returns-4
-    add-next
-    cast-t18
-    returns-5)
+    cast-if5
+    mul-if5
+    add-if5
+    refusal-requires-5
+    returns-5
+    cast-place
+    returns-6)

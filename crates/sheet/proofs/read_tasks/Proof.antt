@@ -1,15 +1,15 @@
 use Prim.Native.Nat.{_-_}
 use native.Mathlib.Omega.{arith}
 use borrow.Author.Needs.{needs}
-use Rattle.sheet.proofs.Sheets.{Taking, taking-first, task-away, taking-more, bytes-left, sheet-read}
+use Rattle.sheet.proofs.Sheets.{Taking, taking-first, still-near, task-away, taking-more, bytes-left, sheet-read}
 use Rattle.sheet.proofs.read_tasks.Statement.{statement}
 use Rattle.sheet.proofs.read_tasks.Tie as tie
 
 abbrev Inv-loop : tie.InvT-loop
-Inv-loop s h entries₀ n m at₀ i₀ entries at i = Taking s h entries at i
+Inv-loop s start h entries₀ n at₀ i₀ entries at i = Taking s h entries at i
 
 abbrev μ-loop : tie.MeasureT-loop
-μ-loop s h entries₀ n m at₀ i₀ entries at i = n - i
+μ-loop s start h entries₀ n at₀ i₀ entries at i = n - i
 
 no-entries-requires : tie.Need-no-entries-requires Inv-loop μ-loop
 no-entries-requires c κs = search needs
@@ -18,7 +18,7 @@ loop-holds : tie.Need-loop-holds Inv-loop μ-loop
 loop-holds c = search taking-first
 
 read-task-requires : tie.Need-read-task-requires Inv-loop μ-loop
-read-task-requires c κs = omega arith
+read-task-requires c κs = (omega arith, search still-near)
 
 enum-known-a : tie.Need-enum-known-a Inv-loop μ-loop
 enum-known-a c = search needs
