@@ -3,7 +3,7 @@ use Prim.Native.Nat.{ℕ, zero, suc, _+_, _*_, _≤_, _<_, max}
 use mathlib.Core.Path.{_≡_, refl, sym, ap, _∙_, subst}
 use mathlib.Core.Logic.{⊎-elim}
 use mathlib.Core.List.{List, [], _∷_}
-use mathlib.Core.Bool.{Bool, true, false}
+use mathlib.Core.Bool.{Bool, true, false, _&&_}
 use native.Mathlib.Omega.{arith}
 use borrow.Author.Tests.{lt-ltb, le-ltb, le-leb, lt-leb}
 use mir.Val.{Fits}
@@ -11,39 +11,58 @@ use mir.Syntax.{w16, w64}
 use lib.ListN.{length, getD, drop}
 use lib.Seq.{drop-drop}
 use Rattle.rules.specs.Words.{if_then_else_, _<?_, _≤?_, _=?_, row, largest}
-use Rattle.rules.specs.Sheet.{Step, run, lock, unlock, Task, Sheet, taskAt}
+use Rattle.rules.specs.Sheet.{Step, run, lock, unlock, Task, Sheet, taskAt, isUnlock}
 use Rattle.rules.specs.Choice.{ceiling}
 use Rattle.rules.specs.Bounds.{runs, inside, sectionLength, bound, cost}
 use Rattle.rules.specs.Answers.{byRank}
 use Rattle.rules.specs.Laws.{All, StepLimits, Limits}
-use Rattle.rules.proofs.Laws.{below, row-at, largest-same}
+use Rattle.rules.proofs.Laws.{below, row-at, largest-same, all-drop}
 use Rattle.rules.proofs.Limits.{acceptedWithinLimits}
 use Rattle.table.specs.Table.{here, stepsAt, taskOf, entryOf, sheetOf, Tabled}
+use Rattle.table.specs.Steps.{hereIs, ticksOf, semaphoreOf}
 use Rattle.table.specs.declared.Entry.{Entry}
 use Rattle.table.specs.declared.Table.{Table}
 use Rattle.table.specs.declared.Here.{Here}
 use Rattle.table.specs.declared.Here.the-variants.{Run, Lock, Unlock, End}
 use Rattle.table.proofs.Laws.{length-steps, steps-past, entry-out, task-at, tasks-count}
-use Rattle.analysis.specs.Steps.{ticks, isUnlockOf, atMost, Sound}
+use Rattle.analysis.specs.Steps.{isUnlockOf, atMost, Sound}
 use Rattle.analysis.proofs.Laws.{Filled, filled-ranks, largest-turn, largest-end, largest-none, largest-le}
 
+-- the unlock of a semaphore, by its kind and the semaphore that it names
+module _ (u : ℕ) (x : Here) (b : Bool) (eb : b ≡ hereIs isUnlock x) where
+  unlock-of : hereIs (isUnlockOf u) x ≡ (b && semaphoreOf x =? u)
+  unfolding hereIs isUnlock isUnlockOf
+  unlock-of = rw eb (go x)
+    where
+      go : (x : Here) → hereIs (isUnlockOf u) x ≡ (hereIs isUnlock x && semaphoreOf x =? u)
+      go (Run n) = refl
+      go (Lock s) = refl
+      go (Unlock s) = refl
+      go End = refl
+
+  pub names-it : b ≡ true → (s : ℕ) → s ≡ semaphoreOf x → (s =? u) ≡ hereIs (isUnlockOf u) x
+  names-it h s es = rw es (sym (unlock-of ∙ rw h refl))
+
+  pub no-unlock : b ≡ false → false ≡ hereIs (isUnlockOf u) x
+  no-unlock h = sym (unlock-of ∙ rw h refl)
+
 -- a row of steps by its first and the rest
-runs-first : (steps : List Step) → runs steps ≡ ticks (here steps) + runs (drop 1 steps)
+runs-first : (steps : List Step) → runs steps ≡ ticksOf (here steps) + runs (drop 1 steps)
 unfolding runs here
 runs-first [] = refl
 runs-first (run n ∷ steps) = refl
 runs-first (lock s ∷ steps) = omega arith
 runs-first (unlock s ∷ steps) = omega arith
 
-inside-first : (u : ℕ) (steps : List Step) → isUnlockOf u (here steps) ≡ false → runs (inside u steps) ≡ ticks (here steps) + runs (inside u (drop 1 steps))
-unfolding runs inside here
+inside-first : (u : ℕ) (steps : List Step) → hereIs (isUnlockOf u) (here steps) ≡ false → runs (inside u steps) ≡ ticksOf (here steps) + runs (inside u (drop 1 steps))
+unfolding runs inside here hereIs isUnlockOf
 inside-first u [] e = refl
 inside-first u (run n ∷ steps) e = refl
 inside-first u (lock s ∷ steps) e = omega arith
 inside-first u (unlock s ∷ steps) e = rw e (omega arith)
 
-inside-last : (u : ℕ) (steps : List Step) → isUnlockOf u (here steps) ≡ true → runs (inside u steps) ≡ 0
-unfolding runs inside here
+inside-last : (u : ℕ) (steps : List Step) → hereIs (isUnlockOf u) (here steps) ≡ true → runs (inside u steps) ≡ 0
+unfolding runs inside here hereIs isUnlockOf
 inside-last u [] e = refl
 inside-last u (run n ∷ steps) e = absurd (let z : _≡_ {A = ℕ} 0 1 = cc in omega arith)
 inside-last u (lock s ∷ steps) e = absurd (let z : _≡_ {A = ℕ} 0 1 = cc in omega arith)
@@ -126,12 +145,12 @@ module _ (bytes : List ℕ) (e : Entry) where
     inside-end u w l v = omega (arith, ap (λ (x : List Step). runs (inside u x)) (steps-past bytes e k l))
 
     module _ (h : Here) (eh : h ≡ here (drop k steps)) where
-      pub inside-here : (u w : ℕ) (b : Bool) → b ≡ isUnlockOf u h → b ≡ true → sum + runs (inside u (drop k steps)) ≡ w → sum ≡ w
-      inside-here u w b eb t v = omega (arith, inside-last u (drop k steps) (ap (isUnlockOf u) (sym eh) ∙ sym eb ∙ t))
+      pub inside-here : (u w : ℕ) (b : Bool) → b ≡ hereIs (isUnlockOf u) h → b ≡ true → sum + runs (inside u (drop k steps)) ≡ w → sum ≡ w
+      inside-here u w b eb t v = omega (arith, inside-last u (drop k steps) (ap (hereIs (isUnlockOf u)) (sym eh) ∙ sym eb ∙ t))
 
-      module _ (n : ℕ) (en : n ≡ ticks h) where
+      module _ (n : ℕ) (en : n ≡ ticksOf h) where
         cost-first : runs (drop k steps) ≡ n + runs (drop (k + 1) steps)
-        cost-first = omega (arith, runs-first (drop k steps), ap runs (drop-drop 1 k steps), en ∙ ap ticks eh)
+        cost-first = omega (arith, runs-first (drop k steps), ap runs (drop-drop 1 k steps), en ∙ ap ticksOf eh)
 
         pub cost-turn : sum + runs (drop k steps) ≡ cost (taskOf bytes e) → sum + n + runs (drop (k + 1) steps) ≡ cost (taskOf bytes e)
         cost-turn w = omega (arith, cost-first)
@@ -140,9 +159,9 @@ module _ (bytes : List ℕ) (e : Entry) where
         unfolding cost
         cost-adds σ w = record { fits = omega (arith, cost-first, sound-runs bytes e σ) }
 
-        module _ (u from : ℕ) (b : Bool) (eb : b ≡ isUnlockOf u h) (f : b ≡ false) (w : sum + runs (inside u (drop k steps)) ≡ runs (inside u (drop from steps))) where
+        module _ (u from : ℕ) (b : Bool) (eb : b ≡ hereIs (isUnlockOf u) h) (f : b ≡ false) (w : sum + runs (inside u (drop k steps)) ≡ runs (inside u (drop from steps))) where
           pub inside-turn : sum + n + runs (inside u (drop (k + 1) steps)) ≡ runs (inside u (drop from steps))
-          inside-turn = omega (arith, inside-first u (drop k steps) (ap (isUnlockOf u) (sym eh) ∙ sym eb ∙ f), ap (λ (x : List Step). runs (inside u x)) (drop-drop 1 k steps), en ∙ ap ticks eh)
+          inside-turn = omega (arith, inside-first u (drop k steps) (ap (hereIs (isUnlockOf u)) (sym eh) ∙ sym eb ∙ f), ap (λ (x : List Step). runs (inside u x)) (drop-drop 1 k steps), en ∙ ap ticksOf eh)
 
           pub inside-adds : Sound bytes e → Fits w64 (sum + n)
           inside-adds σ = record { fits = omega (arith, inside-turn, inside-fits u from σ) }
@@ -162,20 +181,14 @@ section-none test (run n ∷ steps) h = refl
 section-none test (lock s ∷ steps) h = absurd (h s refl)
 section-none test (unlock s ∷ steps) h = refl
 
+pub no-section : (test : ℕ → Bool) (steps : List Step) (h : Here) → h ≡ here steps → ((u : ℕ) → h ≡ Lock u → ⊥) → 0 ≡ sectionLength test steps
+no-section test steps h eh n = section-none test steps (λ u y. n u (eh ∙ y))
+
 module _ (test : ℕ → Bool) (bytes : List ℕ) (e : Entry) (k : ℕ) (h : Here) (eh : h ≡ here (drop k (taskOf bytes e .steps))) where
   pub at-lock : (u r : ℕ) → h ≡ Lock u → r ≡ (if test u then runs (inside u (drop (k + 1) (taskOf bytes e .steps))) else 0) → r ≡ sectionLength test (drop k (taskOf bytes e .steps))
   at-lock u r x er =
       er ∙ ap (λ (rest : List Step). if test u then runs (inside u rest) else 0) (sym (drop-drop 1 k (taskOf bytes e .steps)))
       ∙ sym (section-first test u (drop k (taskOf bytes e .steps)) (sym eh ∙ x))
-
-  pub at-run : (n : ℕ) → h ≡ Run n → 0 ≡ sectionLength test (drop k (taskOf bytes e .steps))
-  at-run n x = section-none test _ (λ u y. let z : _≡_ {A = ℕ} 0 1 = cc in omega arith)
-
-  pub at-unlock : (s : ℕ) → h ≡ Unlock s → 0 ≡ sectionLength test (drop k (taskOf bytes e .steps))
-  at-unlock s x = section-none test _ (λ u y. let z : _≡_ {A = ℕ} 0 1 = cc in omega arith)
-
-  pub at-end : h ≡ End → 0 ≡ sectionLength test (drop k (taskOf bytes e .steps))
-  at-end x = section-none test _ (λ u y. let z : _≡_ {A = ℕ} 0 1 = cc in omega arith)
 
 module _ (cs : List ℕ) (i u : ℕ) where
   pub low-ceiling : (r x : ℕ) → r ≡ x → getD cs u 0 ≤ i → r ≡ (if atMost cs i u then x else 0)
@@ -187,11 +200,6 @@ module _ (cs : List ℕ) (i u : ℕ) where
   high-ceiling x l = rw (lt-leb (getD cs u 0) i l) refl
 
 -- the semaphore of a lock is below 16
-all-drop : (P : Step → Type 0) (k : ℕ) (steps : List Step) → All P steps → All P (drop k steps)
-all-drop P zero steps α = α
-all-drop P (suc k) [] α = tt
-all-drop P (suc k) (x ∷ steps) α = all-drop P k steps (α .1)
-
 lock-first : (u : ℕ) (steps : List Step) → All (StepLimits 16) steps → here steps ≡ Lock u → u < 16
 unfolding here
 lock-first u [] α e = absurd (let z : _≡_ {A = ℕ} 0 1 = cc in omega arith)

@@ -4,24 +4,14 @@ use mathlib.Core.List.{List}
 use mathlib.Core.Bool.{Bool, false}
 use lib.ListN.{getD}
 use Rattle.rules.specs.Words.{_≤?_, _=?_}
+use Rattle.rules.specs.Sheet.{Step, run, lock, unlock}
 use Rattle.rules.specs.Laws.{All, StepLimits}
 use Rattle.table.specs.Table.{taskOf, Lies}
 use Rattle.table.specs.declared.Entry.{Entry}
-use Rattle.table.specs.declared.Here.{Here}
-use Rattle.table.specs.declared.Here.the-variants.{Run, Lock, Unlock, End}
 
--- The ticks that a step runs.
-abbrev pub ticks : Here → ℕ
-ticks (Run n) = n
-ticks (Lock s) = 0
-ticks (Unlock s) = 0
-ticks End = 0
-
-abbrev pub isUnlockOf : (s : ℕ) → Here → Bool
-isUnlockOf s (Run n) = false
-isUnlockOf s (Lock u) = false
-isUnlockOf s (Unlock u) = u =? s
-isUnlockOf s End = false
+-- A step is the unlock of semaphore s.
+unfoldable pub isUnlockOf : (s : ℕ) → Step → Bool
+isUnlockOf s = elim [ run n ↦ false | lock u ↦ false | unlock u ↦ u =? s ]
 
 -- The ceiling of semaphore s is at most i, by the row of ceilings.
 unfoldable pub atMost : (ceilings : List ℕ) (i s : ℕ) → Bool

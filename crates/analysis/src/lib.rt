@@ -3,6 +3,7 @@
 use rules::Laxity;
 use table::Entry;
 use table::Here;
+use table::Kind;
 use table::Table;
 ghost use mathlib.Core.Path.{_≡_};
 ghost use Prim.Native.Nat.{_+_, _<_, _≤_, max};
@@ -14,7 +15,8 @@ ghost use Rattle.rules.specs.Choice.{ceiling};
 ghost use Rattle.rules.specs.Bounds.{runs, inside, sectionLength, bound, cost, roundedUp, laxity};
 ghost use Rattle.rules.specs.Answers.{byRank, signed};
 ghost use Rattle.table.specs.Table.{entryOf, taskOf, sheetOf, Tabled};
-ghost use Rattle.analysis.specs.Steps.{ticks, isUnlockOf, atMost, Sound};
+ghost use Rattle.table.specs.Steps.{hereIs};
+ghost use Rattle.analysis.specs.Steps.{isUnlockOf, atMost, Sound};
 ghost use Rattle.analysis.specs.Laxity.{demandFrom, slackFrom, largestFrom, laxityFrom, laxitiesFrom, Periods, raise, lowered};
 
 // The larger of two.
@@ -27,28 +29,14 @@ fn larger(a: u64, b: u64) -> u64
     a
 }
 
-// The ticks that a step runs.
-fn ticks_of(h: Here) -> u64
-    ensures { λ r. ⌜ r ≡ ticks h ⌝ }
-{
-    match h {
-        Here::Run(n) => n as u64,
-        Here::Lock(_) => 0,
-        Here::Unlock(_) => 0,
-        Here::End => 0,
-    }
-}
-
 // Is a step the unlock of semaphore `u`?
 fn is_unlock_of(u: u16, h: Here) -> bool
-    ensures { λ r. ⌜ r ≡ isUnlockOf u h ⌝ }
+    ensures { λ r. ⌜ r ≡ hereIs (isUnlockOf u) h ⌝ }
 {
-    match h {
-        Here::Run(_) => false,
-        Here::Lock(_) => false,
-        Here::Unlock(v) => v == u,
-        Here::End => false,
+    if table::is_of(h, Kind::Unlock) {
+        return table::semaphore_of(h) == u as usize;
     }
+    false
 }
 
 // C is the sum of a task's runs.
@@ -61,8 +49,7 @@ fn cost_of(s: &[u8], e: Entry) -> u64
     let mut k: usize = 0;
     while k < count {
         let h = table::step_at(s, e, k);
-        let n = ticks_of(h);
-        sum += n;
+        sum += table::ticks_of(h) as u64;
         k += 1;
     }
     sum
@@ -112,8 +99,7 @@ fn inside_length(s: &[u8], e: Entry, u: u16, from: usize) -> u64
         if is_unlock_of(u, h) {
             return sum;
         }
-        let n = ticks_of(h);
-        sum += n;
+        sum += table::ticks_of(h) as u64;
         k += 1;
     }
     sum
@@ -138,12 +124,10 @@ fn section_length(s: &[u8], e: Entry, cs: [u8; 16], i: usize, k: usize) -> u64
     ensures { λ r. ⌜ r ≡ sectionLength (atMost cs i) (drop k (taskOf (now (s .entry)) e .steps)) ⌝ }
 {
     let h = table::step_at(s, e, k);
-    match h {
-        Here::Run(_) => 0,
-        Here::Lock(u) => length_behind(s, e, cs, i, u, k + 1),
-        Here::Unlock(_) => 0,
-        Here::End => 0,
-    }
+    let Here::Lock(u) = h else {
+        return 0;
+    };
+    length_behind(s, e, cs, i, u, k + 1)
 }
 
 // The longest of a task's sections whose semaphores have a ceiling of at most i; 0 if none.

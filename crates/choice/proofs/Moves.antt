@@ -27,6 +27,7 @@ use Rattle.rules.proofs.Possible.{Possible, stands-inside}
 use Rattle.rules.proofs.Walk.{Runs, runner-runs}
 use Rattle.rules.proofs.Kept.{released-fits, released-past, runner-rank, tick-parts}
 use Rattle.table.specs.Table.{here}
+use Rattle.table.specs.Steps.{hereIs}
 use Rattle.table.specs.declared.Here.{Here}
 use Rattle.choice.specs.Choosable.{Choosable}
 use Rattle.holders.specs.Holders.{holder, holders, entryAfter, afterStep, afterSteps, reached, afterTick}
@@ -54,12 +55,12 @@ module _ (h : ℕ → ℕ → Bool) (i : ℕ) (rank : i < 16) where
 
   -- a lock of what nobody else holds, an unlock of its own
   take-entry : (s : ℕ) (c : Bool) → others s ≡ 255 → entryAfter i (Here.Lock s) (if c then i else others s) ≡ i
-  unfolding entryAfter
+  unfolding entryAfter hereIs isLock
   take-entry s true z = rw (ne-eqb i 255 (λ e. omega arith)) refl
   take-entry s false z = rw z refl
 
   give-entry : (s : ℕ) (c : Bool) → (c ≡ true → others s ≡ 255) → entryAfter i (Here.Unlock s) (if c then i else others s) ≡ others s
-  unfolding entryAfter
+  unfolding entryAfter hereIs isLock
   give-entry s true z = rw (eq-eqb i i refl) (sym (z refl))
   give-entry s false z = rw (ne-eqb (others s) i (others-not s)) refl
 

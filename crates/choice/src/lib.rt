@@ -3,13 +3,12 @@ ghost use mathlib.Core.Path.{_≡_};
 ghost use mathlib.Core.List.{[]};
 ghost use mathlib.Core.Bool.{false};
 ghost use Prim.Native.Nat.{ℕ, _≤_, _<_};
-ghost use lib.ListN.{take, drop};
+ghost use lib.ListN.{take};
 ghost use Rattle.rules.specs.Words.{_<?_, row, any};
-ghost use Rattle.rules.specs.Sheet.{isRun, isLock};
 ghost use Rattle.rules.specs.Record.{recordAt};
 ghost use Rattle.rules.specs.Choice.{runnerByte, ceiling, goes, topJob, walk, runner};
-ghost use Rattle.table.specs.Table.{here, taskOf, sheetOf, Lies, Tabled};
-ghost use Rattle.choice.specs.Steps.{runHere, lockHere};
+ghost use Rattle.table.specs.Table.{taskOf, sheetOf, Lies, Tabled};
+ghost use Rattle.table.specs.Steps.{ofKind};
 ghost use Rattle.holders.specs.Holders.{holders};
 ghost use Rattle.choice.specs.Choosable.{Choosable};
 ghost use Rattle.choice.specs.Way.{nearer, nearest};
@@ -17,10 +16,12 @@ use holders::holders_of;
 use rules::Job;
 use rules::State;
 use table::Entry;
-use table::Here;
+use table::Kind;
 use table::Table;
 use table::entry_at;
+use table::is_of;
 use table::step_at;
+use table::ticks_of;
 
 // The semaphore in a job's way: its ceiling and its holder, 255 where there is none.
 pub struct Way {
@@ -71,38 +72,15 @@ fn is_free(i: u8, w: Way) -> bool
     i < w.ceiling
 }
 
-// The kinds of a step that rule 3 asks for.
-fn is_run(x: Here) -> bool
-    ensures { λ r. ⌜ r ≡ runHere x ⌝ }
-{
-    match x {
-        Here::Run(_) => true,
-        Here::Lock(_) => false,
-        Here::Unlock(_) => false,
-        Here::End => false,
-    }
-}
-
-fn is_lock(x: Here) -> bool
-    ensures { λ r. ⌜ r ≡ lockHere x ⌝ }
-{
-    match x {
-        Here::Run(_) => false,
-        Here::Lock(_) => true,
-        Here::Unlock(_) => false,
-        Here::End => false,
-    }
-}
-
-// Does a run lie before a position?
-fn run_before(s: &[u8], e: Entry, position: usize) -> bool
+// Does a step of a kind lie before a position?
+fn any_before(s: &[u8], e: Entry, kind: Kind, position: usize) -> bool
     requires { ⌜ Lies (now s) e ⌝ }
-    ensures { λ r. ⌜ r ≡ any isRun (take position (taskOf (now (s .entry)) e .steps)) ⌝ }
+    ensures { λ r. ⌜ r ≡ any (ofKind kind) (take position (taskOf (now (s .entry)) e .steps)) ⌝ }
 {
     let mut p: usize = 0;
     while p < position {
         let x = step_at(s, e, p);
-        if is_run(x) {
+        if is_of(x, kind) {
             return true;
         }
         p += 1;
@@ -110,57 +88,29 @@ fn run_before(s: &[u8], e: Entry, position: usize) -> bool
     false
 }
 
-// Does the program have any lock?
-fn any_lock(s: &[u8], e: Entry) -> bool
-    requires { ⌜ Lies (now s) e ⌝ }
-    ensures { λ r. ⌜ r ≡ any isLock (taskOf (now (s .entry)) e .steps) ⌝ }
-{
-    let count = e.count as usize;
-    let mut p: usize = 0;
-    while p < count {
-        let x = step_at(s, e, p);
-        if is_lock(x) {
-            return true;
-        }
-        p += 1;
-    }
-    false
-}
-
-// Rule 3 of a job that stands at a run of so many ticks and is not free of ceilings: it goes unless mode 1 holds it back,
-// fresh and with a lock in its program.
-fn goes_at_run(s: &[u8], mode: u8, e: Entry, j: Job, full: u16) -> bool
-    requires { ⌜ Lies (now s) e ⌝ }
-    requires { ⌜ Here.Run full ≡ here (drop (j .position) (taskOf (now s) e .steps)) ⌝ }
-    ensures { λ r. ⌜ r ≡ goes mode (taskOf (now (s .entry)) e) j false ⌝ }
-{
-    if mode != 1 {
-        return true;
-    }
-    if j.left != full {
-        return true;
-    }
-    let position = j.position as usize;
-    if run_before(s, e, position) {
-        return true;
-    }
-    let locks = any_lock(s, e);
-    !locks
-}
-
-// Rule 3 of a job that is not free of ceilings.
+// Rule 3 of a job that is not free of ceilings: it goes where it stands at a run, unless mode 1 holds it back, fresh and
+// with a lock in its program.
 fn goes_barred(s: &[u8], mode: u8, e: Entry, j: Job) -> bool
     requires { ⌜ Lies (now s) e ⌝ }
     ensures { λ r. ⌜ r ≡ goes mode (taskOf (now (s .entry)) e) j false ⌝ }
 {
     let position = j.position as usize;
     let x = step_at(s, e, position);
-    match x {
-        Here::Run(full) => goes_at_run(s, mode, e, j, full),
-        Here::Lock(_) => false,
-        Here::Unlock(_) => false,
-        Here::End => false,
+    if !is_of(x, Kind::Run) {
+        return false;
     }
+    if mode != 1 {
+        return true;
+    }
+    if j.left != ticks_of(x) {
+        return true;
+    }
+    if any_before(s, e, Kind::Run, position) {
+        return true;
+    }
+    let count = e.count as usize;
+    let locks = any_before(s, e, Kind::Lock, count);
+    !locks
 }
 
 // Rule 4: the pending job of smallest rank, 255 if none is.

@@ -3,16 +3,16 @@ use Prim.Native.Nat.{ℕ, suc, _+_, _-_, _*_, _/_, _%_, _≤_, _<_}
 use mathlib.Core.Path.{_≡_, refl, sym, ap, _∙_}
 use mathlib.Core.Logic.{⊎-elim}
 use mathlib.Core.List.{List, [], _∷_}
-use mathlib.Core.Bool.{Bool, true, false, _||_}
+use mathlib.Core.Bool.{Bool, true, false}
 use native.Mathlib.Omega.{arith}
 use native.Mathlib.Nat.{add-assoc, div-add-mod'}
 use lib.Arith.{digits-mod}
 use lib.Dec.{eqb}
-use lib.ListN.{length, getD, take, drop, set, length-set, length-drop}
+use lib.ListN.{length, getD, drop, set, length-set, length-drop}
 use lib.Seq.{drop-drop, ext-getD, getD-set-same, getD-set-other}
 use borrow.Author.Tests.{lt-ltb, le-ltb, le-leb, lt-leb, eq-eqb, ne-eqb, eqb-true, eqb-false}
-use Rattle.rules.specs.Words.{if_then_else_, _<?_, _=?_, any, leading}
-use Rattle.rules.specs.Sheet.{Step, run, lock, unlock, Task, Sheet, taskAt, isLock, isUnlock}
+use Rattle.rules.specs.Words.{if_then_else_, _<?_, _=?_, leading}
+use Rattle.rules.specs.Sheet.{Step, Task, Sheet, taskAt, isLock, isUnlock}
 use Rattle.rules.specs.Fields.{Releases, Misses, TicksRun, TicksBlocked, up, standing, movedTo, noJob, blank, withTasks}
 use Rattle.rules.specs.Record.{recordAt, ahead}
 use Rattle.rules.specs.Choice.{full, Runner, job, stuck, idle, runnerByte}
@@ -21,98 +21,47 @@ use Rattle.rules.specs.declared.Job.{Job}
 use Rattle.rules.specs.declared.Counts.{Counts}
 use Rattle.rules.specs.declared.TaskRecord.{TaskRecord}
 use Rattle.rules.specs.declared.State.{State}
-use Rattle.rules.proofs.Laws.{sure, below, true-false, length-row, row-at}
+use Rattle.rules.proofs.Laws.{sure, below, length-row, row-at}
 use Rattle.rules.proofs.Reading.{periods}
 use Rattle.rules.proofs.Tick.{advanced-cases}
 use Rattle.table.specs.Table.{here, noEntry, entryOf, taskOf, sheetOf, Tabled}
+use Rattle.table.specs.Steps.{hereIs, ticksOf}
 use Rattle.table.specs.declared.Entry.{Entry}
 use Rattle.table.specs.declared.Table.{Table}
 use Rattle.table.specs.declared.Here.{Here}
 use Rattle.table.proofs.Laws.{entry-in, task-at, tasks-count}
+use Rattle.table.proofs.Steps.{ticks-here, leading-first}
 use Rattle.effect.specs.Effect.{runnerNamed, Rests, Quiet, changedBelow, blockedOnce, eachBlocked}
 
--- what the first of some steps says: the ticks left on coming to it, whether it is a lock, whether it is an unlock
-unfoldable pub leftHere : Here → ℕ
-leftHere (Here.Run n) = n
-leftHere (Here.Lock s) = 0
-leftHere (Here.Unlock s) = 0
-leftHere Here.End = 0
+-- at most all of some steps pass
+leading-le : (test : Step → Bool) (xs : List Step) → leading test xs ≤ length xs
+unfolding leading
+leading-le test [] = omega arith
+leading-le test (x ∷ xs) = go (test x) (leading-le test xs)
+  where
+    go : (b : Bool) → leading test xs ≤ length xs → (if b then suc (leading test xs) else 0) ≤ suc (length xs)
+    go true h = omega arith
+    go false h = omega arith
 
-unfoldable pub lockHere : Here → Bool
-lockHere (Here.Run n) = false
-lockHere (Here.Lock s) = true
-lockHere (Here.Unlock s) = false
-lockHere Here.End = false
-
-unfoldable pub unlockHere : Here → Bool
-unlockHere (Here.Run n) = false
-unlockHere (Here.Lock s) = false
-unlockHere (Here.Unlock s) = true
-unlockHere Here.End = false
-
-left-here : (xs : List Step) → leftHere (here xs) ≡ full xs
-unfolding here leftHere full
-left-here [] = refl
-left-here (run n ∷ xs) = refl
-left-here (lock s ∷ xs) = refl
-left-here (unlock s ∷ xs) = refl
-
-lock-here : (xs : List Step) → lockHere (here xs) ≡ any isLock (take 1 xs)
-unfolding here lockHere any isLock
-lock-here [] = refl
-lock-here (run n ∷ xs) = refl
-lock-here (lock s ∷ xs) = refl
-lock-here (unlock s ∷ xs) = refl
-
-unlock-here : (xs : List Step) → unlockHere (here xs) ≡ any isUnlock (take 1 xs)
-unfolding here unlockHere any isUnlock
-unlock-here [] = refl
-unlock-here (run n ∷ xs) = refl
-unlock-here (lock s ∷ xs) = refl
-unlock-here (unlock s ∷ xs) = refl
-
--- the same of an answer h that is the variant x
-module _ (xs : List Step) (h x : Here) (e : h ≡ here xs) (u : h ≡ x) where
-  pub left-told : leftHere x ≡ full xs
-  left-told = ap leftHere (sym u ∙ e) ∙ left-here xs
-
-  pub lock-told : lockHere x ≡ any isLock (take 1 xs)
-  lock-told = ap lockHere (sym u ∙ e) ∙ lock-here xs
-
-  pub unlock-told : unlockHere x ≡ any isUnlock (take 1 xs)
-  unlock-told = ap unlockHere (sym u ∙ e) ∙ unlock-here xs
+-- the ticks left on coming to steps, by the first of them
+pub full-told : (steps : List Step) (x : Here) (n : ℕ) → x ≡ here steps → n ≡ ticksOf x → n ≡ full steps
+full-told steps x n e en = en ∙ ap ticksOf e ∙ ticks-here steps
 
 -- past the steps that pass a test, one by one
-module _ (test : Step → Bool) where
-  first-no : (xs : List Step) → any test (take 1 xs) ≡ false → leading test xs ≡ 0
-  unfolding any leading
-  first-no [] e = refl
-  first-no (x ∷ xs) e = go (test x) e
-    where
-      go : (b : Bool) → (b || false) ≡ false → (if b then suc (leading test xs) else 0) ≡ 0
-      go true e = true-false true refl e
-      go false e = refl
+module _ (test : Step → Bool) (steps : List Step) (p end : ℕ) (inv : p + leading test (drop p steps) ≡ end)
+    (x : Here) (ex : x ≡ here (drop p steps)) (b : Bool) (eb : b ≡ hereIs test x) where
+  leading-by : leading test (drop p steps) ≡ (if b then suc (leading test (drop (p + 1) steps)) else 0)
+  leading-by = rw (eb, ex, ← drop-drop 1 p steps) (leading-first test (drop p steps))
 
-  first-yes : (xs : List Step) → any test (take 1 xs) ≡ true → (leading test xs ≡ suc (leading test (drop 1 xs))) × (1 ≤ length xs)
-  unfolding any leading
-  first-yes [] e = true-false false e refl
-  first-yes (x ∷ xs) e = (go (test x) e, omega arith)
-    where
-      go : (b : Bool) → (b || false) ≡ true → (if b then suc (leading test xs) else 0) ≡ suc (leading test xs)
-      go true e = refl
-      go false e = true-false false e refl
+  pub past-end : b ≡ false → p ≡ end
+  past-end u = let z : leading test (drop p steps) ≡ 0 = rw u at leading-by in omega arith
 
-  module _ (xs : List Step) (p end : ℕ) (inv : p + leading test (drop p xs) ≡ end) (b : Bool) (e : b ≡ any test (take 1 (drop p xs))) where
-    pub past-end : b ≡ false → p ≡ end
-    past-end u = omega (arith, first-no (drop p xs) (sym e ∙ u))
+  pub past-more : b ≡ true → p + 1 + leading test (drop (p + 1) steps) ≡ end
+  past-more u = let z : leading test (drop p steps) ≡ suc (leading test (drop (p + 1) steps)) = rw u at leading-by in omega arith
 
-    pub past-more : b ≡ true → p + 1 + leading test (drop (p + 1) xs) ≡ end
-    past-more u =
-        let z = first-yes (drop p xs) (sym e ∙ u) .0 ∙ ap (λ (ys : List Step). suc (leading test ys)) (drop-drop 1 p xs) in
-        omega arith
-
-    pub past-inside : b ≡ true → p < length xs
-    past-inside u = omega (arith, first-yes (drop p xs) (sym e ∙ u) .1, length-drop p xs)
+  pub past-inside : b ≡ true → p < length steps
+  past-inside u = let z : leading test (drop p steps) ≡ suc (leading test (drop (p + 1) steps)) = rw u at leading-by in
+      omega (arith, leading-le test (drop p steps), length-drop p steps)
 
 -- rule 1: whether a task has a release at t
 module _ (t : ℕ) (task : Task) where
@@ -169,15 +118,6 @@ module _ (task : Task) (j : Job) (p : ℕ) (ep : p ≡ nextRun task j) where
   left-full n f ef =
       ef ∙ ap (λ (k : ℕ). full (drop k (task .steps))) ep
       ∙ sym (rw (ne-eqb (nextRun task j) (j .position) (λ u. n (ep ∙ u))) refl)
-
-leading-le : (test : Step → Bool) (xs : List Step) → leading test xs ≤ length xs
-unfolding leading
-leading-le test [] = omega arith
-leading-le test (x ∷ xs) = go (test x) (leading-le test xs)
-  where
-    go : (b : Bool) → leading test xs ≤ length xs → (if b then suc (leading test xs) else 0) ≤ suc (length xs)
-    go true h = omega arith
-    go false h = omega arith
 
 -- the next run stands inside the steps, or where the job stood
 pub next-run-fits : (task : Task) (j : Job) (p : ℕ) → p ≡ nextRun task j → length (task .steps) ≤ 64 → j .position ≤ 255 → p ≤ 255

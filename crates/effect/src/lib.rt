@@ -4,19 +4,19 @@ use rules::Job;
 use rules::State;
 use rules::TaskRecord;
 use table::Entry;
-use table::Here;
+use table::Kind;
 use table::Table;
 ghost use mathlib.Core.Path.{_≡_};
 ghost use mathlib.Core.List.{List};
 ghost use mathlib.Core.Bool.{true};
 ghost use Prim.Native.Nat.{ℕ, _+_, _-_, _<_, _≤_};
-ghost use lib.ListN.{take, drop};
-ghost use Rattle.rules.specs.Words.{if_then_else_, _=?_, any, leading};
-ghost use Rattle.rules.specs.Sheet.{isLock, isUnlock};
+ghost use lib.ListN.{drop};
+ghost use Rattle.rules.specs.Words.{if_then_else_, _=?_, leading};
 ghost use Rattle.rules.specs.Choice.{full, job};
 ghost use Rattle.rules.specs.Fields.{withTasks};
 ghost use Rattle.rules.specs.Tick.{releasesAt, released, afterReleases, leftOfRun, nextRun, advanced, spent, afterRunner, closed};
 ghost use Rattle.table.specs.Table.{taskOf, sheetOf, Lies, Tabled};
+ghost use Rattle.table.specs.Steps.{ofKind};
 ghost use Rattle.record.specs.Room.{CountsBelow, AllBelow};
 ghost use Rattle.effect.specs.Effect.{runnerNamed, Rests, Quiet, eachBlocked};
 
@@ -36,13 +36,7 @@ fn full_at(s: &[u8], e: Entry, p: usize) -> u16
     requires { ⌜ Lies (now s) e ⌝ }
     ensures { λ r. ⌜ r ≡ full (drop p (taskOf (now (s .entry)) e .steps)) ⌝ }
 {
-    let h = table::step_at(s, e, p);
-    match h {
-        Here::Run(n) => n,
-        Here::Lock(_) => 0,
-        Here::Unlock(_) => 0,
-        Here::End => 0,
-    }
+    table::ticks_of(table::step_at(s, e, p))
 }
 
 // The record of a task that has a release at t.
@@ -126,53 +120,13 @@ pub fn quiet_until(s: &[u8], table: Table, t: u16) -> u32
     due
 }
 
-// Whether a lock stands at a position.
-fn at_lock(s: &[u8], e: Entry, p: usize) -> bool
+// Past the steps of a kind that stand from a position on.
+fn past(s: &[u8], e: Entry, from: usize, kind: Kind) -> usize
     requires { ⌜ Lies (now s) e ⌝ }
-    ensures { λ r. ⌜ r ≡ any isLock (take 1 (drop p (taskOf (now (s .entry)) e .steps))) ⌝ }
-{
-    let h = table::step_at(s, e, p);
-    match h {
-        Here::Run(_) => false,
-        Here::Lock(_) => true,
-        Here::Unlock(_) => false,
-        Here::End => false,
-    }
-}
-
-// Past the locks that stand from a position on.
-fn past_locks(s: &[u8], e: Entry, from: usize) -> usize
-    requires { ⌜ Lies (now s) e ⌝ }
-    ensures { λ r. ⌜ r ≡ from + leading isLock (drop from (taskOf (now (s .entry)) e .steps)) ⌝ }
+    ensures { λ r. ⌜ r ≡ from + leading (ofKind kind) (drop from (taskOf (now (s .entry)) e .steps)) ⌝ }
 {
     let mut p = from;
-    while at_lock(s, e, p) {
-        p += 1;
-    }
-    p
-}
-
-// Whether an unlock stands at a position.
-fn at_unlock(s: &[u8], e: Entry, p: usize) -> bool
-    requires { ⌜ Lies (now s) e ⌝ }
-    ensures { λ r. ⌜ r ≡ any isUnlock (take 1 (drop p (taskOf (now (s .entry)) e .steps))) ⌝ }
-{
-    let h = table::step_at(s, e, p);
-    match h {
-        Here::Run(_) => false,
-        Here::Lock(_) => false,
-        Here::Unlock(_) => true,
-        Here::End => false,
-    }
-}
-
-// Past the unlocks that stand from a position on.
-fn past_unlocks(s: &[u8], e: Entry, from: usize) -> usize
-    requires { ⌜ Lies (now s) e ⌝ }
-    ensures { λ r. ⌜ r ≡ from + leading isUnlock (drop from (taskOf (now (s .entry)) e .steps)) ⌝ }
-{
-    let mut p = from;
-    while at_unlock(s, e, p) {
+    while table::is_of(table::step_at(s, e, p), kind) {
         p += 1;
     }
     p
@@ -211,7 +165,7 @@ fn advanced(s: &[u8], e: Entry, t: u16, r: TaskRecord) -> TaskRecord
 {
     let j = r.job;
     let c = r.counts;
-    let p = past_locks(s, e, j.position as usize);
+    let p = past(s, e, j.position as usize, Kind::Lock);
     let left = left_of_run(s, e, j, p);
     if 1 < left {
         let going_on = record::moved_to(p as u8, left - 1, j);
@@ -220,7 +174,7 @@ fn advanced(s: &[u8], e: Entry, t: u16, r: TaskRecord) -> TaskRecord
             counts: c,
         };
     }
-    let next = past_unlocks(s, e, p + 1);
+    let next = past(s, e, p + 1, Kind::Unlock);
     if next < e.count as usize {
         let f = full_at(s, e, next);
         let further = record::moved_to(next as u8, f, j);

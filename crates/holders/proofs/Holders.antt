@@ -1,25 +1,27 @@
--- Laws of the holders: taking each rank's steps in turn finds, for each semaphore, the rank that holds it.
+-- Laws of the sixteen entries: taking each rank's steps in turn finds the holders, and by its locks alone the ceilings.
 use Prim.Native.Nat.{ℕ, zero, suc, _+_, _≤_, _<_}
 use mathlib.Core.Path.{_≡_, refl, sym, ap, ap₂, _∙_}
 use mathlib.Core.Logic.{_⊎_, inl, inr, ⊎-elim}
 use mathlib.Core.List.{List, [], _∷_}
-use mathlib.Core.Bool.{Bool, true, false, _&&_, _||_}
+use mathlib.Core.Bool.{Bool, true, false, _||_, or-false}
 use native.Mathlib.Omega.{arith}
 use native.Mathlib.Numerals.{add-one}
 use lib.ListN.{length, getD, set, replicate, length-set, List·getD-eq-default}
 use lib.Seq.{take-nil, getD-set-same, getD-set-other, ext-getD}
 use borrow.Author.Tests.{lt-ltb, le-ltb, eq-eqb, ne-eqb, eqb-true, eqb-false}
 use Rattle.rules.specs.Words.{if_then_else_, _=?_, smallest, row, any, among}
-use Rattle.rules.specs.Sheet.{Step, run, lock, unlock, Sheet, noTask, taskAt, without, heldOnTop, held}
+use Rattle.rules.specs.Sheet.{Step, run, lock, unlock, Task, Sheet, noTask, taskAt, isLock, isLockOf, without, heldOnTop, held}
 use Rattle.rules.specs.Fields.{blank}
 use Rattle.rules.specs.Record.{recordAt, behind, carries, holds}
+use Rattle.rules.specs.Choice.{locks, ceiling}
 use Rattle.rules.specs.declared.TaskRecord.{TaskRecord}
-use Rattle.rules.proofs.Laws.{sure, below, length-row, row-at, smallest-found, smallest-there, smallest-le, smallest-none, row-same}
+use Rattle.rules.proofs.Laws.{sure, below, and-no, length-row, row-at, smallest-found, smallest-there, smallest-le, smallest-none, row-same}
 use Rattle.table.specs.Table.{here, taskOf, noEntry, sheetOf}
+use Rattle.table.specs.Steps.{hereIs, semaphoreOf}
 use Rattle.table.specs.declared.Table.{Table}
 use Rattle.table.specs.declared.Here.{Here}
 use Rattle.table.proofs.Laws.{entry-in, task-at, tasks-count}
-use Rattle.holders.specs.Holders.{holder, holders, holderWith, semaphoreOf, entryAfter, afterStep, afterSteps, afterJob}
+use Rattle.holders.specs.Holders.{holder, holders, firstWith, entryAfter, afterStep, afterSteps, afterJob, onlyLocks}
 
 -- sixteen entries f, of which entry s becomes another
 set-row : (s h : ℕ) (f g : ℕ → ℕ) → s < 16 → h ≡ g s → ((k : ℕ) → k < 16 → (s ≡ k → ⊥) → f k ≡ g k) → set (row 16 f) s h ≡ row 16 g
@@ -102,82 +104,118 @@ without-other s k (u ∷ own) n = go (u =? s) refl (without-other s k own n)
     go true e h = let z = eqb-true u s e in rw (ne-eqb u k (λ w. n (sym z ∙ w))) h
     go false e h = ap (λ (b : Bool). u =? k || b) h
 
-module _ (sheet : Sheet) (records : List TaskRecord) where
+-- of any relation of ranks to semaphores: rank by rank
+module _ (has : ℕ → ℕ → Bool) where
   module _ (i : ℕ) (l : i < 255) where
-    took : (s : ℕ) (own : List ℕ) → afterStep i (Here.Lock s) (row 16 (holderWith sheet records i own)) ≡ row 16 (holderWith sheet records i (s ∷ own))
-    unfolding holderWith among any entryAfter
-    took s own = turn-row i s (Here.Lock s) (holderWith sheet records i own) (holderWith sheet records i (s ∷ own)) refl
-        (λ u. take-own i (among s own) (λ j. holds sheet records j s) l ∙ ap (λ (b : Bool). smallest i (if b || among s own then i else 255) (λ j. holds sheet records j s)) (sym (eq-eqb s s refl)))
-        (λ k n. ap (λ (b : Bool). smallest i (if b || among k own then i else 255) (λ j. holds sheet records j k)) (sym (ne-eqb s k n)))
+    took : (s : ℕ) (own : List ℕ) → afterStep i (Here.Lock s) (row 16 (firstWith has i own)) ≡ row 16 (firstWith has i (s ∷ own))
+    unfolding firstWith among any entryAfter hereIs isLock
+    took s own = turn-row i s (Here.Lock s) (firstWith has i own) (firstWith has i (s ∷ own)) refl
+        (λ u. take-own i (among s own) (λ j. has j s) l ∙ ap (λ (b : Bool). smallest i (if b || among s own then i else 255) (λ j. has j s)) (sym (eq-eqb s s refl)))
+        (λ k n. ap (λ (b : Bool). smallest i (if b || among k own then i else 255) (λ j. has j k)) (sym (ne-eqb s k n)))
 
-    gave : (s : ℕ) (own : List ℕ) → afterStep i (Here.Unlock s) (row 16 (holderWith sheet records i own)) ≡ row 16 (holderWith sheet records i (without s own))
-    unfolding holderWith entryAfter
-    gave s own = turn-row i s (Here.Unlock s) (holderWith sheet records i own) (holderWith sheet records i (without s own)) refl
-        (λ u. give-own i (among s own) (λ j. holds sheet records j s) l ∙ ap (λ (b : Bool). smallest i (if b then i else 255) (λ j. holds sheet records j s)) (sym (without-same s own)))
-        (λ k n. ap (λ (b : Bool). smallest i (if b then i else 255) (λ j. holds sheet records j k)) (sym (without-other s k own n)))
+    gave : (s : ℕ) (own : List ℕ) → afterStep i (Here.Unlock s) (row 16 (firstWith has i own)) ≡ row 16 (firstWith has i (without s own))
+    unfolding firstWith entryAfter hereIs isLock
+    gave s own = turn-row i s (Here.Unlock s) (firstWith has i own) (firstWith has i (without s own)) refl
+        (λ u. give-own i (among s own) (λ j. has j s) l ∙ ap (λ (b : Bool). smallest i (if b then i else 255) (λ j. has j s)) (sym (without-same s own)))
+        (λ k n. ap (λ (b : Bool). smallest i (if b then i else 255) (λ j. has j k)) (sym (without-other s k own n)))
 
     -- after its steps, rank i has what they hold
-    pub stepped : (own : List ℕ) (steps : List Step) → afterSteps i steps (row 16 (holderWith sheet records i own)) ≡ row 16 (holderWith sheet records i (heldOnTop own steps))
+    pub stepped : (own : List ℕ) (steps : List Step) → afterSteps i steps (row 16 (firstWith has i own)) ≡ row 16 (firstWith has i (heldOnTop own steps))
     unfolding afterSteps afterStep heldOnTop here
     stepped own [] = refl
     stepped own (run n ∷ steps) = stepped own steps
     stepped own (lock s ∷ steps) = ap (afterSteps i steps) (took s own) ∙ stepped (s ∷ own) steps
     stepped own (unlock s ∷ steps) = ap (afterSteps i steps) (gave s own) ∙ stepped (without s own) steps
 
-  -- one rank more
-  holder-more : (i : ℕ) (own : List ℕ) (k : ℕ) → holds sheet records i k ≡ among k own → holderWith sheet records i own k ≡ holderWith sheet records (i + 1) [] k
-  unfolding holderWith smallest among any
-  holder-more i own k e = rw (add-one i) (ap (λ (b : Bool). smallest i (if b then i else 255) (λ j. holds sheet records j k)) (sym e))
+  -- no rank
+  pub ranks-none : replicate 16 255 ≡ row 16 (firstWith has 0 [])
+  unfolding row firstWith smallest among any
+  ranks-none = refl
 
-  job-held : (i : ℕ) → i < 255 → afterJob i (taskAt sheet i) (recordAt records i .job) (row 16 (holderWith sheet records i [])) ≡ row 16 (holderWith sheet records (i + 1) [])
+  -- one rank more: it has what is its own
+  pub rank-more : (i : ℕ) (own : List ℕ) → ((k : ℕ) → has i k ≡ among k own) → row 16 (firstWith has i own) ≡ row 16 (firstWith has (i + 1) [])
+  unfolding firstWith smallest among any
+  rank-more i own e = row-same 16 _ _ (λ k m. rw (add-one i) (ap (λ (b : Bool). smallest i (if b then i else 255) (λ j. has j k)) (sym (e k))))
+
+  -- all of them: past the last none has anything
+  pub ranks-all : (n : ℕ) → n ≤ 16 → ((j k : ℕ) → n ≤ j → has j k ≡ false) → row 16 (firstWith has n []) ≡ row 16 (λ s. smallest 16 255 (λ j. has j s))
+  unfolding firstWith among any
+  ranks-all n l past = row-same 16 _ _ (λ k m. smallest-past 16 n 255 (λ j. has j k) l (λ j u. past j k u))
+
+-- the holders
+module _ (sheet : Sheet) (records : List TaskRecord) where
+  job-held : (i : ℕ) → i < 255 → afterJob i (taskAt sheet i) (recordAt records i .job) (row 16 (firstWith (holds sheet records) i [])) ≡ row 16 (firstWith (holds sheet records) (i + 1) [])
   unfolding afterJob holds carries held among any
   job-held i l = go (recordAt records i .job .pending) refl
     where
       go : (b : Bool) → recordAt records i .job .pending ≡ b
-          → (if b then afterSteps i (behind (taskAt sheet i) (recordAt records i .job)) (row 16 (holderWith sheet records i [])) else row 16 (holderWith sheet records i []))
-          ≡ row 16 (holderWith sheet records (i + 1) [])
-      go true e = stepped i l [] (behind (taskAt sheet i) (recordAt records i .job))
-          ∙ row-same 16 _ _ (λ k m. holder-more i (held (behind (taskAt sheet i) (recordAt records i .job))) k (rw e refl))
-      go false e = row-same 16 _ _ (λ k m. holder-more i [] k (rw e refl))
+          → (if b then afterSteps i (behind (taskAt sheet i) (recordAt records i .job)) (row 16 (firstWith (holds sheet records) i [])) else row 16 (firstWith (holds sheet records) i []))
+          ≡ row 16 (firstWith (holds sheet records) (i + 1) [])
+      go true e = stepped (holds sheet records) i l [] (behind (taskAt sheet i) (recordAt records i .job))
+          ∙ rank-more (holds sheet records) i (held (behind (taskAt sheet i) (recordAt records i .job))) (λ k. rw e refl)
+      go false e = rank-more (holds sheet records) i [] (λ k. rw e refl)
 
   -- a rank past the last holds nothing
   pub holds-past : (j k : ℕ) → length (sheet .tasks) ≤ j → holds sheet records j k ≡ false
   unfolding holds carries taskAt behind held heldOnTop among any
-  holds-past j k l = rw (List·getD-eq-default (sheet .tasks) noTask {n = j} l, take-nil (recordAt records j .job .position)) (go (recordAt records j .job .pending))
-    where
-      go : (b : Bool) → (b && false) ≡ false
-      go true = refl
-      go false = refl
-
-  holders-start : row 16 (holderWith sheet records 0 []) ≡ replicate 16 255
-  unfolding row holderWith smallest among any
-  holders-start = refl
-
-  holders-end : length (sheet .tasks) ≤ 16 → row 16 (holderWith sheet records (length (sheet .tasks)) []) ≡ holders sheet records
-  unfolding holders holder holderWith among any
-  holders-end l = row-same 16 _ _ (λ k m. smallest-past 16 (length (sheet .tasks)) 255 (λ j. holds sheet records j k) l (λ j u. holds-past j k u))
+  holds-past j k l = rw (List·getD-eq-default (sheet .tasks) noTask {n = j} l, take-nil (recordAt records j .job .position)) (and-no (recordAt records j .job .pending) false refl)
 
 -- the loop over the ranks
-module _ (bytes : List ℕ) (table : Table) (records : List TaskRecord) where
-  pub ranks-none : replicate 16 255 ≡ row 16 (holderWith (sheetOf bytes table) records 0 [])
-  ranks-none = sym (holders-start (sheetOf bytes table) records)
+module _ (bytes : List ℕ) (table : Table) (records : List TaskRecord) (i : ℕ) (hs : List ℕ)
+    (inv : hs ≡ row 16 (firstWith (holds (sheetOf bytes table) records) i [])) where
+  pub holders-more : table .n ≤ 16 → i < table .n → (more : List ℕ)
+      → more ≡ afterJob i (taskOf bytes (getD (table .entries) i noEntry)) (getD records i blank .job) hs
+      → more ≡ row 16 (firstWith (holds (sheetOf bytes table) records) (i + 1) [])
+  unfolding recordAt
+  holders-more few l more e =
+      e ∙ ap₂ (λ t hs. afterJob i t (getD records i blank .job) hs) (ap (taskOf bytes) (entry-in table i l) ∙ sym (task-at bytes table i)) inv
+      ∙ job-held (sheetOf bytes table) records i (omega arith)
 
-  module _ (i : ℕ) (hs : List ℕ) (inv : hs ≡ row 16 (holderWith (sheetOf bytes table) records i [])) where
-    pub ranks-more : table .n ≤ 16 → i < table .n → (more : List ℕ)
-        → more ≡ afterJob i (taskOf bytes (getD (table .entries) i noEntry)) (getD records i blank .job) hs
-        → more ≡ row 16 (holderWith (sheetOf bytes table) records (i + 1) [])
-    unfolding recordAt
-    ranks-more few l more e =
-        e ∙ ap₂ (λ t hs. afterJob i t (getD records i blank .job) hs) (ap (taskOf bytes) (entry-in table i l) ∙ sym (task-at bytes table i)) inv
-        ∙ job-held (sheetOf bytes table) records i (omega arith)
-
-    pub ranks-all : table .n ≤ 16 → i ≤ table .n → table .n ≤ i → hs ≡ holders (sheetOf bytes table) records
-    ranks-all few l u =
-        let n = tasks-count bytes table in
-        let z : i ≡ length (sheetOf bytes table .tasks) = omega arith in
-        inv ∙ ap (λ (i : ℕ). row 16 (holderWith (sheetOf bytes table) records i [])) z ∙ holders-end (sheetOf bytes table) records (omega arith)
+  pub holders-all : table .n ≤ 16 → i ≤ table .n → table .n ≤ i → hs ≡ holders (sheetOf bytes table) records
+  unfolding holders holder
+  holders-all few l u =
+      let n = tasks-count bytes table in
+      inv ∙ ranks-all (holds (sheetOf bytes table) records) i (omega arith) (λ j k m. holds-past (sheetOf bytes table) records j k (omega arith))
 
 -- the holder of a semaphore, in the row of holders
 pub holder-at : (sheet : Sheet) (records : List TaskRecord) (hs : List ℕ) → hs ≡ holders sheet records → (s : ℕ) → s < 16 → getD hs s 0 ≡ holder sheet records s
 unfolding holders
 holder-at sheet records hs eh s l = ap (λ (xs : List ℕ). getD xs s 0) eh ∙ row-at 16 (holder sheet records) 0 s l
+
+-- the ceilings: what the locks alone hold is what the steps have a lock of
+locked : (k : ℕ) (own : List ℕ) (steps : List Step) → (any (isLockOf k) steps || among k own) ≡ among k (heldOnTop own (onlyLocks steps))
+unfolding any isLockOf among heldOnTop onlyLocks
+locked k own [] = refl
+locked k own (run n ∷ steps) = locked k own steps
+locked k own (lock s ∷ steps) = swap (s =? k) (any (isLockOf k) steps) (among k own) ∙ locked k (s ∷ own) steps
+  where
+    swap : (a b c : Bool) → ((a || b) || c) ≡ (b || (a || c))
+    swap true true c = refl
+    swap true false c = refl
+    swap false true c = refl
+    swap false false c = refl
+locked k own (unlock s ∷ steps) = locked k own steps
+
+-- rank j has a lock of s
+abbrev pub hasLock : Sheet → (j s : ℕ) → Bool
+hasLock sheet j s = locks (taskAt sheet j) s
+
+-- the loop over the ranks
+module _ (bytes : List ℕ) (table : Table) (i : ℕ) (cs : List ℕ) (inv : cs ≡ row 16 (firstWith (hasLock (sheetOf bytes table)) i [])) where
+  abbrev sheet : Sheet
+  sheet = sheetOf bytes table
+
+  pub ceilings-more : table .n ≤ 16 → i < table .n → (more : List ℕ)
+      → more ≡ afterSteps i (onlyLocks (taskOf bytes (getD (table .entries) i noEntry) .steps)) cs
+      → more ≡ row 16 (firstWith (hasLock (sheetOf bytes table)) (i + 1) [])
+  unfolding locks held among any
+  ceilings-more few l more e =
+      let task : taskOf bytes (getD (table .entries) i noEntry) ≡ taskAt sheet i = ap (taskOf bytes) (entry-in table i l) ∙ sym (task-at bytes table i) in
+      e ∙ ap₂ (λ (t : Task) (cs : List ℕ). afterSteps i (onlyLocks (t .steps)) cs) task inv
+      ∙ stepped (hasLock sheet) i (omega arith) [] (onlyLocks (taskAt sheet i .steps))
+      ∙ rank-more (hasLock sheet) i (held (onlyLocks (taskAt sheet i .steps))) (λ k. sym (or-false (any (isLockOf k) (taskAt sheet i .steps))) ∙ locked k [] (taskAt sheet i .steps))
+
+  pub ceilings-all : table .n ≤ 16 → i ≤ table .n → table .n ≤ i → cs ≡ row 16 (ceiling (sheetOf bytes table))
+  unfolding ceiling locks taskAt any
+  ceilings-all few l u =
+      inv ∙ ranks-all (hasLock sheet) i (omega arith) (λ j k m. ap (λ (t : Task). locks t k) (List·getD-eq-default (sheet .tasks) noTask (omega (arith, tasks-count bytes table))))

@@ -5,38 +5,39 @@ ghost use lib.ListN.{take, drop};
 ghost use Rattle.rules.specs.Words.{row};
 ghost use Rattle.rules.specs.Choice.{ceiling};
 ghost use Rattle.table.specs.Table.{taskOf, sheetOf, Lies, Tabled};
-ghost use Rattle.holders.specs.Holders.{holders, semaphoreOf, entryAfter, afterSteps, afterJob, afterTick};
-ghost use Rattle.holders.specs.Ceilings.{LockFits, LocksFit, withStep, withTask};
+ghost use Rattle.holders.specs.Holders.{holders, entryAfter, afterStep, afterSteps, afterJob, afterTick, onlyLocks};
 use rules::Job;
 use rules::State;
 use table::Entry;
 use table::Here;
+use table::Kind;
 use table::Table;
-use table::entry_at;
+use table::is_of;
+use table::semaphore_of;
 use table::step_at;
 
-// The semaphore of a lock or an unlock; 16 where a step has none.
-fn semaphore_of(x: Here) -> usize
-    ensures { λ r. ⌜ r ≡ semaphoreOf x ⌝ }
-{
-    match x {
-        Here::Run(_) => 16,
-        Here::Lock(k) => k as usize,
-        Here::Unlock(k) => k as usize,
-        Here::End => 16,
-    }
-}
-
-// Its entry after the step, which is one of rank i.
+// The entry of a semaphore after its lock or unlock by rank i.
 fn entry_after(i: u8, x: Here, h: u8) -> u8
     ensures { λ r. ⌜ r ≡ entryAfter i x h ⌝ }
 {
-    match x {
-        Here::Run(_) => h,
-        Here::Lock(_) => if h == 255 { i } else { h },
-        Here::Unlock(_) => if h == i { 255 } else { h },
-        Here::End => h,
+    if is_of(x, Kind::Lock) {
+        return if h == 255 { i } else { h };
     }
+    if h == i { 255 } else { h }
+}
+
+// The entries after a step of rank i.
+fn after_step(i: u8, x: Here, hs: [u8; 16]) -> [u8; 16]
+    ensures { λ r. ⌜ r ≡ afterStep i x hs ⌝ }
+{
+    let k = semaphore_of(x);
+    if 16 <= k {
+        return hs;
+    }
+    let mut out = hs;
+    let h = hs[k];
+    out[k] = entry_after(i, x, h);
+    out
 }
 
 // The holders after the steps of rank i from one position to another.
@@ -48,11 +49,8 @@ pub fn after_steps(s: &[u8], e: Entry, from: usize, to: usize, i: u8, hs: [u8; 1
     let mut p = from;
     while p < to {
         let x = step_at(s, e, p);
-        let k = semaphore_of(x);
-        if k < 16 {
-            let h = out[k];
-            out[k] = entry_after(i, x, h);
-        }
+        let next = after_step(i, x, out);
+        out = next;
         p += 1;
     }
     out
@@ -103,39 +101,23 @@ pub fn holders_after(s: &[u8], e: Entry, i: u8, before: Job, after: Job, hs: [u8
     after_steps(s, e, from, end, i, hs)
 }
 
-// The ceilings with a step of a task of rank i, which comes behind the ranks before.
-fn with_step(cs: [u8; 16], i: u8, x: Here) -> [u8; 16]
-    requires { ⌜ LockFits x ⌝ }
-    ensures { λ r. ⌜ r ≡ withStep i x cs ⌝ }
-{
-    let Here::Lock(v) = x else {
-        return cs;
-    };
-    let k = v as usize;
-    if cs[k] <= i {
-        return cs;
-    }
-    let mut next = cs;
-    next[k] = i;
-    next
-}
-
-// The ceilings with the steps of a task.
-fn with_task(s: &[u8], e: Entry, i: u8, cs: [u8; 16]) -> [u8; 16]
+// The ceilings with the locks of a task of rank i: each takes what no rank before has.
+fn after_locks(s: &[u8], e: Entry, i: u8, cs: [u8; 16]) -> [u8; 16]
     requires { ⌜ Lies (now s) e ⌝ }
-    requires { ⌜ LocksFit (taskOf (now s) e) ⌝ }
-    ensures { λ r. ⌜ r ≡ withTask i (taskOf (now (s .entry)) e) cs ⌝ }
+    ensures { λ r. ⌜ r ≡ afterSteps i (onlyLocks (taskOf (now (s .entry)) e .steps)) cs ⌝ }
 {
-    let mut next = cs;
     let count = e.count as usize;
+    let mut out = cs;
     let mut p: usize = 0;
     while p < count {
         let x = step_at(s, e, p);
-        let more = with_step(next, i, x);
-        next = more;
+        if is_of(x, Kind::Lock) {
+            let next = after_step(i, x, out);
+            out = next;
+        }
         p += 1;
     }
-    next
+    out
 }
 
 // The ceiling of each semaphore: the smallest rank that has a lock of it; 255 if none.
@@ -143,12 +125,12 @@ pub fn ceilings_of(s: &[u8], table: Table) -> [u8; 16]
     requires { ⌜ Tabled (now s) table ⌝ }
     ensures { λ r. ⌜ r ≡ row 16 (ceiling (sheetOf (now (s .entry)) table)) ⌝ }
 {
-    let mut cs = [255; 16];
-    let n = table.n;
-    let mut i: u8 = 0;
+    let n = table.n as usize;
+    let mut cs = [255u8; 16];
+    let mut i: usize = 0;
     while i < n {
-        let e = entry_at(table, i as usize);
-        let more = with_task(s, e, i, cs);
+        let e = table.entries[i];
+        let more = after_locks(s, e, i as u8, cs);
         cs = more;
         i += 1;
     }

@@ -6,8 +6,8 @@ use mathlib.Core.Bool.{Bool, true, false, not, _&&_}
 use native.Mathlib.Omega.{arith}
 use lib.ListN.{getD, drop}
 use borrow.Author.Tests.{lt-ltb, le-ltb, le-leb, lt-leb, eq-eqb, ne-eqb, not-true, not-false}
-use Rattle.rules.specs.Words.{_≤?_, _=?_, _⇒_, within}
-use Rattle.rules.specs.Sheet.{Step, run, lock, unlock, Task, Sheet}
+use Rattle.rules.specs.Words.{if_then_else_, _≤?_, _=?_, _⇒_, within}
+use Rattle.rules.specs.Sheet.{Step, run, lock, unlock, Task, Sheet, isRun, isLock}
 use Rattle.rules.specs.Fields.{blank, place, zeros, zeroRecord}
 use Rattle.rules.specs.Record.{recordAt, ahead, countsFit, runnerFits, standsWell, jobFits, recordFits, noneHeldByTwo, possible}
 use Rattle.rules.specs.declared.Job.{Job}
@@ -15,6 +15,7 @@ use Rattle.rules.specs.declared.TaskRecord.{TaskRecord}
 use Rattle.rules.specs.declared.State.{State}
 use Rattle.rules.proofs.Laws.{and-at, every-of, every-no}
 use Rattle.table.specs.Table.{here, taskOf, entryOf, sheetOf}
+use Rattle.table.specs.Steps.{hereIs, ticksOf}
 use Rattle.table.specs.declared.Entry.{Entry}
 use Rattle.table.specs.declared.Table.{Table}
 use Rattle.table.specs.declared.Here.{Here}
@@ -46,39 +47,28 @@ module _ (full left : ℕ) where
   unfolding within
   some-left l = rw (le-leb 1 left l) refl
 
--- how a job stands is said by the first of the steps ahead
-standsAt : Here → (left : ℕ) → Bool
-standsAt (Here.Run n) left = within 1 n left
-standsAt (Here.Lock s) left = left =? 0
-standsAt (Here.Unlock s) left = false
-standsAt Here.End left = false
+-- how a job stands, by the first of the steps ahead
+stands-by : (steps : List Step) (left : ℕ)
+    → standsWell steps left ≡ (if hereIs isRun (here steps) then within 1 (ticksOf (here steps)) left else (hereIs isLock (here steps) && left =? 0))
+unfolding here standsWell hereIs isRun isLock
+stands-by [] left = refl
+stands-by (run n ∷ steps) left = refl
+stands-by (lock s ∷ steps) left = refl
+stands-by (unlock s ∷ steps) left = refl
 
-stands-here : (steps : List Step) (left : ℕ) → standsAt (here steps) left ≡ standsWell steps left
-unfolding here standsWell standsAt
-stands-here [] left = refl
-stands-here (run n ∷ steps) left = refl
-stands-here (lock s ∷ steps) left = refl
-stands-here (unlock s ∷ steps) left = refl
+module _ (steps : List Step) (left : ℕ) (x : Here) (e : x ≡ here steps) (a : Bool) (ea : a ≡ hereIs isRun x) where
+  stands : standsWell steps left ≡ (if a then within 1 (ticksOf x) left else (hereIs isLock x && left =? 0))
+  stands = rw (ea, e) (stands-by steps left)
 
-module _ (steps : List Step) (left : ℕ) (x : Here) (e : x ≡ here steps) where
-  stands : standsAt x left ≡ standsWell steps left
-  stands = ap (λ (x : Here). standsAt x left) e ∙ stands-here steps left
+  pub stands-run : a ≡ true → (n : ℕ) → n ≡ ticksOf x → (b : Bool) → b ≡ within 1 n left → b ≡ standsWell steps left
+  stands-run h n en b eb = eb ∙ rw en (sym (stands ∙ rw h refl))
 
-  pub stands-run : (n : ℕ) → x ≡ Here.Run n → (b : Bool) → b ≡ within 1 n left → b ≡ standsWell steps left
-  unfolding standsAt
-  stands-run n u b eb = eb ∙ sym (ap (λ (x : Here). standsAt x left) u) ∙ stands
+  module _ (h : a ≡ false) (b : Bool) (eb : b ≡ hereIs isLock x) where
+    pub stands-lock : b ≡ true → (left =? 0) ≡ standsWell steps left
+    stands-lock u = sym (stands ∙ rw (h, ← eb, u) refl)
 
-  pub stands-lock : (s : ℕ) → x ≡ Here.Lock s → (left =? 0) ≡ standsWell steps left
-  unfolding standsAt
-  stands-lock s u = sym (ap (λ (x : Here). standsAt x left) u) ∙ stands
-
-  pub stands-unlock : (s : ℕ) → x ≡ Here.Unlock s → false ≡ standsWell steps left
-  unfolding standsAt
-  stands-unlock s u = sym (ap (λ (x : Here). standsAt x left) u) ∙ stands
-
-  pub stands-end : x ≡ Here.End → false ≡ standsWell steps left
-  unfolding standsAt
-  stands-end u = sym (ap (λ (x : Here). standsAt x left) u) ∙ stands
+    pub stands-not : b ≡ false → false ≡ standsWell steps left
+    stands-not u = sym (stands ∙ rw (h, ← eb, u) refl)
 
 -- the job
 module _ (t : ℕ) (task : Task) (j : Job) where

@@ -17,7 +17,7 @@ use Rattle.rules.proofs.Laws.{sure, below, and-at, true-false, and-left, and-ri
 use Rattle.table.specs.Table.{taskOf, noEntry, sheetOf}
 use Rattle.table.specs.declared.Table.{Table}
 use Rattle.table.proofs.Laws.{entry-in, task-at, tasks-count}
-use Rattle.holders.specs.Holders.{holder, holders, holderWith, afterSteps}
+use Rattle.holders.specs.Holders.{holder, holders, firstWith, afterSteps}
 use Rattle.holders.proofs.Holders.{stepped, holds-past, holder-at}
 use Rattle.possible.specs.Holding.{sameHolder, sameHolders, holdsAlone}
 
@@ -46,22 +46,18 @@ module _ (own hs : List ℕ) (k : ℕ) where
   unfolding sameHolders
   holders-all l inv = sym (every-of 16 _ (λ s m. inv s (omega arith)))
 
--- beside nobody, the steps of rank i hold what they have locked and not unlocked
+-- where no other rank has anything, the steps of rank i hold what they have locked and not unlocked
 alone : (i : ℕ) (own : List ℕ) (s : ℕ) → ℕ
 alone i own s = if among s own then i else 255
 
--- (nobody: a sheet of no tasks)
-nobody : Sheet
-nobody = record { mode = 0; semaphores = 0; tasks = [] }
-
 module _ (i : ℕ) (l : i < 255) where
-  beside-nobody : (own : List ℕ) → row 16 (holderWith nobody [] i own) ≡ row 16 (alone i own)
-  unfolding holderWith alone holds carries recordAt
-  beside-nobody own = row-same 16 (holderWith nobody [] i own) (alone i own) (λ s m. smallest-none i _ (λ j. holds nobody [] j s) (λ j n. refl))
+  beside-nobody : (own : List ℕ) → row 16 (firstWith (λ j s. false) i own) ≡ row 16 (alone i own)
+  unfolding firstWith alone
+  beside-nobody own = row-same 16 (firstWith (λ j s. false) i own) (alone i own) (λ s m. smallest-none i _ (λ j. false) (λ j n. refl))
 
   steps-alone : (steps : List Step) → afterSteps i steps (replicate 16 255) ≡ row 16 (alone i (held steps))
   unfolding held row alone among any
-  steps-alone steps = ap (afterSteps i steps) (sym (beside-nobody [])) ∙ stepped nobody [] i l [] steps ∙ beside-nobody (held steps)
+  steps-alone steps = ap (afterSteps i steps) (sym (beside-nobody [])) ∙ stepped (λ j s. false) i l [] steps ∙ beside-nobody (held steps)
 
   same-alone : (b : Bool) (h : ℕ) → sameHolder (if b then i else 255) h ≡ (b ⇒ h =? i)
   unfolding sameHolder

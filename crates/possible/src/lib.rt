@@ -14,10 +14,12 @@ use rules::Job;
 use rules::State;
 use rules::TaskRecord;
 use table::Entry;
-use table::Here;
+use table::Kind;
 use table::Table;
 use table::entry_at;
+use table::is_of;
 use table::step_at;
+use table::ticks_of;
 
 // the last runner is a rank below n, 254 or 255;
 fn runner_fits(n: u8, x: u8) -> bool
@@ -48,12 +50,13 @@ fn stands_well(s: &[u8], e: Entry, position: usize, left: u16) -> bool
     ensures { λ r. ⌜ r ≡ standsWell (drop position (taskOf (now (s .entry)) e .steps)) left ⌝ }
 {
     let x = step_at(s, e, position);
-    match x {
-        Here::Run(full) => from_one_to(full, left),
-        Here::Lock(_) => left == 0,
-        Here::Unlock(_) => false,
-        Here::End => false,
+    if is_of(x, Kind::Run) {
+        return from_one_to(ticks_of(x), left);
     }
+    if is_of(x, Kind::Lock) {
+        return left == 0;
+    }
+    false
 }
 
 // a task not pending has position, left and release tick zero; a pending one has a release tick below t, and stands well;

@@ -5,6 +5,7 @@ ghost use Prim.Native.Nat.{_+_, _<_, _≤_};
 ghost use lib.ListN.{length, drop};
 ghost use Rattle.rules.specs.Reading.{word};
 ghost use Rattle.table.specs.Table.{here, entryOf, taskOf, Lies};
+ghost use Rattle.table.specs.Steps.{hereIs, ofKind, numberOf, numberHere, ticksOf, semaphoreOf};
 
 // A task of the sheet: `count` steps stand from byte `at` on.
 pub struct Entry {
@@ -27,6 +28,13 @@ pub enum Here {
     Lock(u16),
     Unlock(u16),
     End,
+}
+
+// The kinds of a step.
+pub enum Kind {
+    Run,
+    Lock,
+    Unlock,
 }
 
 // The 16-bit number at a place.
@@ -73,4 +81,57 @@ pub fn step_at(s: &[u8], e: Entry, p: usize) -> Here
         return Here::Lock(value);
     }
     Here::Unlock(value)
+}
+
+// Document 01's numbers of the kinds; 0 where no step stands.
+fn number_of(kind: Kind) -> u8
+    ensures { λ r. ⌜ r ≡ numberOf kind ⌝ }
+{
+    match kind {
+        Kind::Run => 1,
+        Kind::Lock => 2,
+        Kind::Unlock => 3,
+    }
+}
+
+fn number_here(x: Here) -> u8
+    ensures { λ r. ⌜ r ≡ numberHere x ⌝ }
+{
+    match x {
+        Here::Run(_) => 1,
+        Here::Lock(_) => 2,
+        Here::Unlock(_) => 3,
+        Here::End => 0,
+    }
+}
+
+// Whether a step of a kind stands there.
+pub fn is_of(x: Here, kind: Kind) -> bool
+    ensures { λ r. ⌜ r ≡ hereIs (ofKind kind) x ⌝ }
+{
+    number_here(x) == number_of(kind)
+}
+
+// The ticks that a step runs.
+pub fn ticks_of(x: Here) -> u16
+    ensures { λ r. ⌜ r ≡ ticksOf x ⌝ }
+{
+    match x {
+        Here::Run(n) => n,
+        Here::Lock(_) => 0,
+        Here::Unlock(_) => 0,
+        Here::End => 0,
+    }
+}
+
+// The semaphore that a step locks or unlocks; 16 where it does neither.
+pub fn semaphore_of(x: Here) -> usize
+    ensures { λ r. ⌜ r ≡ semaphoreOf x ⌝ }
+{
+    match x {
+        Here::Run(_) => 16,
+        Here::Lock(s) => s as usize,
+        Here::Unlock(s) => s as usize,
+        Here::End => 16,
+    }
 }

@@ -1,10 +1,10 @@
 use Prim.Native.Nat.{_+_, _-_, _≤_}
 use mathlib.Core.Path.{_≡_}
-use borrow.Author.Needs.{needs}
 use lib.ListN.{drop}
 use Rattle.rules.specs.Bounds.{runs, cost}
 use Rattle.table.specs.Table.{taskOf}
 use Rattle.analysis.proofs.Bounds.{cost-begin, cost-turn, cost-adds, cost-end}
+use borrow.Author.Needs.{needs}
 use Rattle.analysis.proofs.cost_of.Statement.{statement}
 use Rattle.analysis.proofs.cost_of.Tie as tie
 
@@ -26,6 +26,9 @@ step-at-requires c κs = c .before .before .before .before .pre .lies
 
 ticks-of-requires : tie.Need-ticks-of-requires Inv-loop μ-loop
 ticks-of-requires c κs = search needs
+
+cast-sum : tie.Need-cast-sum Inv-loop μ-loop
+cast-sum c = search needs
 
 add-sum : tie.Need-add-sum Inv-loop μ-loop
 add-sum c = search cost-adds
@@ -52,6 +55,7 @@ cost-of-spec =
     loop-holds
     step-at-requires
     ticks-of-requires
+    cast-sum
     add-sum
     add-k
     loop-less

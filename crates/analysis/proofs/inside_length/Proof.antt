@@ -1,10 +1,10 @@
 use Prim.Native.Nat.{_+_, _-_, _≤_}
 use mathlib.Core.Path.{_≡_}
-use borrow.Author.Needs.{needs}
 use lib.ListN.{drop}
 use Rattle.rules.specs.Bounds.{runs, inside}
 use Rattle.table.specs.Table.{taskOf}
 use Rattle.analysis.proofs.Bounds.{inside-here, inside-turn, inside-adds, inside-end}
+use borrow.Author.Needs.{needs}
 use Rattle.analysis.proofs.inside_length.Statement.{statement}
 use Rattle.analysis.proofs.inside_length.Tie as tie
 
@@ -33,6 +33,9 @@ returns c = search inside-here
 ticks-of-requires : tie.Need-ticks-of-requires Inv-loop μ-loop
 ticks-of-requires c κs = search needs
 
+cast-sum : tie.Need-cast-sum Inv-loop μ-loop
+cast-sum c = search needs
+
 add-sum : tie.Need-add-sum Inv-loop μ-loop
 add-sum c = search inside-adds
 
@@ -60,6 +63,7 @@ inside-length-spec =
     is-unlock-of-requires
     returns
     ticks-of-requires
+    cast-sum
     add-sum
     add-k
     loop-less

@@ -1,33 +1,19 @@
-use mathlib.Core.Path.{refl}
+use Rattle.analysis.proofs.Bounds.{names-it, no-unlock}
 use borrow.Author.Needs.{needs}
 use Rattle.analysis.proofs.is_unlock_of.Statement.{statement}
 use Rattle.analysis.proofs.is_unlock_of.Tie as tie
 
-enum-told : tie.Need-enum-told
-enum-told c = search needs
+is-of-requires : tie.Need-is-of-requires
+is-of-requires c κs = search needs
 
-enum-told-2 : tie.Need-enum-told-2
-enum-told-2 c = search needs
-
-enum-known-h : tie.Need-enum-known-h
-enum-known-h c = search needs
-
-enum-told-3 : tie.Need-enum-told-3
-enum-told-3 c = search needs
+semaphore-of-requires : tie.Need-semaphore-of-requires
+semaphore-of-requires c κs = search needs
 
 returns : tie.Need-returns
-returns c = search needs
+returns c = search names-it
 
 returns-2 : tie.Need-returns-2
-returns-2 c = search needs
-
-returns-3 : tie.Need-returns-3
-returns-3 c = rw (c .before .h .given .1) refl
-
-returns-4 : tie.Need-returns-4
-returns-4 c = search needs
+returns-2 c = search no-unlock
 
 pub is-unlock-of-spec : {M : Type 1} → statement M
-is-unlock-of-spec =
-    tie.close
-    (tie.spec enum-told enum-told-2 enum-known-h enum-told-3 returns returns-2 returns-3 returns-4)
+is-unlock-of-spec = tie.close (tie.spec is-of-requires semaphore-of-requires returns returns-2)

@@ -11,11 +11,11 @@ use Rattle.effect.proofs.Laws.{next-run-fits, advanced-on, advanced-fur
 use Rattle.effect.proofs.advanced.Statement.{statement}
 use Rattle.effect.proofs.advanced.Tie as tie
 
-cast-past-locks : tie.Need-cast-past-locks
-cast-past-locks c = search needs
+cast-past : tie.Need-cast-past
+cast-past c = search needs
 
-past-locks-requires : tie.Need-past-locks-requires
-past-locks-requires c κs = search needs
+past-requires : tie.Need-past-requires
+past-requires c κs = search needs
 
 left-of-run-requires : tie.Need-left-of-run-requires
 unfolding nextRun ahead
@@ -26,7 +26,7 @@ unfolding nextRun ahead
 cast-moved-to c =
     let b = c .before .before .before .before .before .before .before in
     let n = length-steps (now (b .args .s)) (b .args .e) in
-    omega (arith, next-run-fits (taskOf (now (b .args .s)) (b .args .e)) (b .args .r .job) (c .before .before .past-locks .result) (c .before .before .past-locks .ensures) (omega (arith, b .pre .0 .few)) (omega arith))
+    omega (arith, next-run-fits (taskOf (now (b .args .s)) (b .args .e)) (b .args .r .job) (c .before .before .past .result) (c .before .before .past .ensures) (omega (arith, b .pre .0 .few)) (omega arith))
 
 sub-moved-to : tie.Need-sub-moved-to
 sub-moved-to c = search needs
@@ -38,15 +38,15 @@ returns : tie.Need-returns
 unfolding nextRun ahead
 returns c = search advanced-on
 
-add-past-unlocks : tie.Need-add-past-unlocks
+add-past : tie.Need-add-past
 unfolding nextRun ahead
-add-past-unlocks c =
+add-past c =
     let b = c .before .before .before .before .before .before .before in
     let n = length-steps (now (b .args .s)) (b .args .e) in
-    omega (arith, next-run-fits (taskOf (now (b .args .s)) (b .args .e)) (b .args .r .job) (c .before .before .past-locks .result) (c .before .before .past-locks .ensures) (omega (arith, b .pre .0 .few)) (omega arith))
+    omega (arith, next-run-fits (taskOf (now (b .args .s)) (b .args .e)) (b .args .r .job) (c .before .before .past .result) (c .before .before .past .ensures) (omega (arith, b .pre .0 .few)) (omega arith))
 
-past-unlocks-requires : tie.Need-past-unlocks-requires
-past-unlocks-requires c κs = search needs
+past-requires-2 : tie.Need-past-requires-2
+past-requires-2 c κs = search needs
 
 cast-if2 : tie.Need-cast-if2
 cast-if2 c = search needs
@@ -68,9 +68,9 @@ returns-2 c =
     let run = unlocked .before .before .before in
     let b = run .before .before .before .before .before in
     let n = length-steps (now (b .args .s)) (b .args .e) in
-    advanced-further (b .args .t) (taskOf (now (b .args .s)) (b .args .e)) (b .args .r) (run .past-locks .result) (unlocked .before .before .left-of-run .result)
-    (run .past-locks .ensures) (unlocked .before .before .left-of-run .ensures) (unlocked .before .if1 .left)
-    (unlocked .past-unlocks .result) (unlocked .past-unlocks .ensures) (omega arith) (m .full-at .result) (m .full-at .ensures) (c .moved-to2 .result) (c .moved-to2 .ensures)
+    advanced-further (b .args .t) (taskOf (now (b .args .s)) (b .args .e)) (b .args .r) (run .past .result) (unlocked .before .before .left-of-run .result)
+    (run .past .ensures) (unlocked .before .before .left-of-run .ensures) (unlocked .before .if1 .left)
+    (unlocked .past2 .result) (unlocked .past2 .ensures) (omega arith) (m .full-at .result) (m .full-at .ensures) (c .moved-to2 .result) (c .moved-to2 .ensures)
 
 response-requires : tie.Need-response-requires
 response-requires c κs = search needs
@@ -89,24 +89,24 @@ returns-3 c =
     let run = unlocked .before .before .before in
     let b = run .before .before .before .before .before in
     let n = length-steps (now (b .args .s)) (b .args .e) in
-    advanced-done (b .args .t) (taskOf (now (b .args .s)) (b .args .e)) (b .args .r) (run .past-locks .result) (unlocked .before .before .left-of-run .result)
-    (run .past-locks .ensures) (unlocked .before .before .left-of-run .ensures) (unlocked .before .if1 .left)
-    (unlocked .past-unlocks .result) (unlocked .past-unlocks .ensures) (omega arith) (done .before .response .result) (done .before .response .ensures)
+    advanced-done (b .args .t) (taskOf (now (b .args .s)) (b .args .e)) (b .args .r) (run .past .result) (unlocked .before .before .left-of-run .result)
+    (run .past .ensures) (unlocked .before .before .left-of-run .ensures) (unlocked .before .if1 .left)
+    (unlocked .past2 .result) (unlocked .past2 .ensures) (omega arith) (done .before .response .result) (done .before .response .ensures)
     (done .completed .result) (done .completed .ensures) (c .no-job .result) (c .no-job .ensures)
 
 pub advanced-spec : {M : Type 1} → statement M
 advanced-spec =
     tie.close
     (tie.spec
-    cast-past-locks
-    past-locks-requires
+    cast-past
+    past-requires
     left-of-run-requires
     cast-moved-to
     sub-moved-to
     moved-to-requires
     returns
-    add-past-unlocks
-    past-unlocks-requires
+    add-past
+    past-requires-2
     cast-if2
     full-at-requires
     cast-moved-to-2

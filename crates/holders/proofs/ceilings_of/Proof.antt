@@ -1,33 +1,42 @@
 use Prim.Native.Nat.{_-_, _≤_}
 use mathlib.Core.Path.{_≡_}
+use mathlib.Core.List.{[]}
 use native.Mathlib.Omega.{arith}
+use Rattle.rules.specs.Words.{row}
 use Rattle.table.specs.Table.{sheetOf}
-use Rattle.table.proofs.Laws.{lies-from}
-use Rattle.holders.specs.Ceilings.{ceilingsUpTo}
-use Rattle.holders.proofs.Ceilings.{locks-fit, ceilings-none, ceilings-more, ceilings-all}
+use Rattle.table.proofs.Laws.{entry-in, lies-from}
+use Rattle.holders.specs.Holders.{firstWith}
+use Rattle.holders.proofs.Holders.{hasLock, ranks-none, ceilings-more, ceilings-all}
+use borrow.Author.Needs.{needs}
 use Rattle.holders.proofs.ceilings_of.Statement.{statement}
 use Rattle.holders.proofs.ceilings_of.Tie as tie
 
 abbrev Inv-loop : tie.InvT-loop
-Inv-loop s table cs₀ n i₀ cs i = (i ≤ n) × (cs ≡ ceilingsUpTo (sheetOf s table) i)
+Inv-loop s table n cs₀ i₀ cs i = (i ≤ n) × (cs ≡ row 16 (firstWith (hasLock (sheetOf s table)) i []))
 
 abbrev μ-loop : tie.MeasureT-loop
-μ-loop s table cs₀ n i₀ cs i = n - i
+μ-loop s table n cs₀ i₀ cs i = n - i
+
+cast-n : tie.Need-cast-n Inv-loop μ-loop
+cast-n c = search needs
 
 loop-holds : tie.Need-loop-holds Inv-loop μ-loop
-loop-holds c = (omega arith, ceilings-none (sheetOf (c .before .args .s .now) (c .before .args .table)))
+loop-holds c = (omega arith, search ranks-none)
 
-cast-entry-at : tie.Need-cast-entry-at Inv-loop μ-loop
-cast-entry-at c = omega (arith, c .before .before .before .pre .few)
+mul-e : tie.Need-mul-e Inv-loop μ-loop
+mul-e c = omega arith
 
-entry-at-requires : tie.Need-entry-at-requires Inv-loop μ-loop
-entry-at-requires c κs = c .before .before .before .pre .few
+element-copy-out-e : tie.Need-element-copy-out-e Inv-loop μ-loop
+element-copy-out-e c = search needs
 
-with-task-requires : tie.Need-with-task-requires Inv-loop μ-loop
-with-task-requires c κs = (search lies-from, search locks-fit)
+cast-after-locks : tie.Need-cast-after-locks Inv-loop μ-loop
+cast-after-locks c = omega arith
+
+after-locks-requires : tie.Need-after-locks-requires Inv-loop μ-loop
+after-locks-requires c κs = search (lies-from, entry-in)
 
 add-i : tie.Need-add-i Inv-loop μ-loop
-add-i c = omega (arith, c .before .before .before .before .before .pre .few)
+add-i c = omega arith
 
 loop-less : tie.Need-loop-less Inv-loop μ-loop
 loop-less c = omega arith
@@ -44,10 +53,12 @@ ceilings-of-spec =
     (tie.spec
     Inv-loop
     μ-loop
+    cast-n
     loop-holds
-    cast-entry-at
-    entry-at-requires
-    with-task-requires
+    mul-e
+    element-copy-out-e
+    cast-after-locks
+    after-locks-requires
     add-i
     loop-less
     loop-again

@@ -6,13 +6,14 @@ use mathlib.Core.List.{[]}
 use Rattle.rules.specs.Words.{row}
 use Rattle.table.specs.Table.{sheetOf}
 use Rattle.table.proofs.Laws.{entry-in, lies-from}
-use Rattle.holders.specs.Holders.{holderWith}
-use Rattle.holders.proofs.Holders.{ranks-none, ranks-more, ranks-all}
+use Rattle.rules.specs.Record.{holds}
+use Rattle.holders.specs.Holders.{firstWith}
+use Rattle.holders.proofs.Holders.{ranks-none, holders-more, holders-all}
 use Rattle.holders.proofs.holders_of.Statement.{statement}
 use Rattle.holders.proofs.holders_of.Tie as tie
 
 abbrev Inv-loop : tie.InvT-loop
-Inv-loop s table st n hs₀ i₀ hs i = (i ≤ n) × (hs ≡ row 16 (holderWith (sheetOf s table) (st .tasks) i []))
+Inv-loop s table st n hs₀ i₀ hs i = (i ≤ n) × (hs ≡ row 16 (firstWith (holds (sheetOf s table) (st .tasks)) i []))
 
 abbrev μ-loop : tie.MeasureT-loop
 μ-loop s table st n hs₀ i₀ hs i = n - i
@@ -48,10 +49,10 @@ loop-less : tie.Need-loop-less Inv-loop μ-loop
 loop-less c = omega arith
 
 loop-again : tie.Need-loop-again Inv-loop μ-loop
-loop-again c = (omega arith, search ranks-more)
+loop-again c = (omega arith, search holders-more)
 
 returns : tie.Need-returns Inv-loop μ-loop
-returns c = search ranks-all
+returns c = search holders-all
 
 pub holders-of-spec : {M : Type 1} → statement M
 holders-of-spec =
