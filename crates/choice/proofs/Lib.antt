@@ -1,4 +1,4 @@
 pub mod Steps
 pub mod Ways
 pub mod Walks
-pub mod Moves
+pub mod Choosable

@@ -48,7 +48,7 @@ scan-whole test bytes e b u =
 
 module _ (mode : ℕ) (task : Task) (j : Job) where
   -- not free of ceilings
-  pub barred-goes : goes mode task j false ≡ (not (mode =? 1 && fresh task j && any isLock (task .steps)) && atRun task j)
+  barred-goes : goes mode task j false ≡ (not (mode =? 1 && fresh task j && any isLock (task .steps)) && atRun task j)
   unfolding goes
   barred-goes = go (mode =? 1 && fresh task j && any isLock (task .steps)) (atRun task j)
     where

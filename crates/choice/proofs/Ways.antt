@@ -14,8 +14,9 @@ use Rattle.rules.specs.Sheet.{Sheet, taskAt}
 use Rattle.rules.specs.Record.{holds, noneHeldByTwo}
 use Rattle.rules.specs.Choice.{locks, ceiling, heldByOther, freeOfCeilings, inTheWay, nextCandidate}
 use Rattle.rules.specs.declared.TaskRecord.{TaskRecord}
-use Rattle.rules.proofs.Laws.{sure, below, and-at, true-false, and-left, and-right, and-both, and-no, implied, implies-no, implies-yes, some-of, none-of, every-at, every-of, every-no, row-at, someone, Found, smallest-found, smallest-le, smallest-is}
+use Rattle.rules.proofs.Laws.{sure, below, and-at, true-false, and-left, and-right, and-both, and-no, implied, implies-no, some-of, none-of, every-of, every-no, row-at, someone, Found, smallest-found, smallest-le, smallest-is}
 use Rattle.rules.proofs.Choice.{holds-locks}
+use Rattle.rules.proofs.Possible.{held-by-one}
 use Rattle.choice.specs.declared.Way.{Way}
 use Rattle.holders.specs.Holders.{holder, holders}
 use Rattle.choice.specs.Way.{way, byOther, nearer, nearest}
@@ -138,11 +139,6 @@ module _ (p : ℕ → Bool) (f h : ℕ → ℕ) where
 
 -- of a sheet whose semaphores nobody holds twice
 module _ (sheet : Sheet) (records : List TaskRecord) (single : noneHeldByTwo sheet records ≡ true) where
-  held-once : (s i j : ℕ) → s < 16 → i < 16 → j < 16 → holds sheet records i s ≡ true → holds sheet records j s ≡ true → i ≡ j
-  unfolding noneHeldByTwo
-  held-once s i j a b c p q = eqb-true i j (implies-yes (holds sheet records i s && holds sheet records j s) (i =? j)
-      (every-at 16 _ (every-at 16 _ (every-at 16 _ single s a) i b) j c) (and-both _ _ p q))
-
   -- who holds a semaphore
   pub by-other : (i s : ℕ) → i < 16 → s < 16 → byOther i (holder sheet records s) ≡ heldByOther sheet records i s
   unfolding byOther holder heldByOther
@@ -153,7 +149,7 @@ module _ (sheet : Sheet) (records : List TaskRecord) (single : noneHeldByTwo she
           (λ u. rw u (sym (none-of 16 (λ j. not (j =? i) && holds sheet records j s) (λ j l. ⊎-elim
           (λ v. rw v refl)
           (λ v. and-no (not (j =? i)) (holds sheet records j s) (⊎-elim
-          (λ y. absurd (eqb-false j i v (held-once s j i b l a y (rw (eqb-true h i u) at (w .1)))))
+          (λ y. absurd (eqb-false j i v (held-by-one sheet records single j i s l a b y (rw (eqb-true h i u) at (w .1)))))
           (λ y. y)
           (sure (holds sheet records j s))))
           (sure (j =? i))))))

@@ -20,11 +20,12 @@ use Rattle.rules.specs.declared.TaskRecord.{TaskRecord}
 use Rattle.rules.specs.declared.State.{State}
 use Rattle.rules.proofs.Laws.{length-row}
 use Rattle.rules.proofs.Possible.{Possible, possible-parts}
-use Rattle.rules.proofs.Walk.{runner-runs}
-use Rattle.rules.proofs.Kept.{startPossible, risen, released-rising, after-time, after-possible}
+use Rattle.rules.proofs.Runner.{runner-below}
+use Rattle.rules.proofs.Kept.{startPossible, risen, released-rising, may-run, after-time, after-possible}
 use Rattle.holders.specs.Holders.{holders, afterTick}
 use Rattle.choice.specs.Choosable.{Choosable}
-use Rattle.choice.proofs.Moves.{choosable as choosable-released, holders-released, holders-still, holders-ticked}
+use Rattle.holders.proofs.Moves.{holders-released, holders-still, holders-ticked}
+use Rattle.choice.proofs.Choosable.{choosable as choosable-released}
 use Rattle.record.specs.Room.{AllBelow}
 use Rattle.effect.specs.Effect.{runnerNamed, Quiet}
 use Rattle.effect.proofs.Laws.{byte-back}
@@ -37,7 +38,7 @@ module _ (sheet : Sheet) (st a : State) (x : ℕ) (ea : a ≡ withTasks st (afte
 
   pub runner-of : runnerNamed x ≡ runner sheet (afterReleases sheet st)
   unfolding runnerOf
-  runner-of = ap runnerNamed byte-of ∙ byte-back (runner sheet (afterReleases sheet st)) (λ k z. runner-runs sheet (afterReleases sheet st) k z .rank)
+  runner-of = ap runnerNamed byte-of ∙ byte-back (runner sheet (afterReleases sheet st)) (runner-below sheet (afterReleases sheet st))
 
 pub ran-parts : (sheet : Sheet) (st a b : State) (x : ℕ) → a ≡ withTasks st (afterReleases sheet st) → x ≡ runnerByte (runner sheet (a .tasks))
     → b ≡ withTasks a (afterRunner (runnerNamed x) sheet (a .t) (a .tasks)) → b ≡ withTasks st (afterRunner (runner sheet (afterReleases sheet st)) sheet (st .t) (afterReleases sheet st))
@@ -72,7 +73,7 @@ module _ (bytes : List ℕ) (sheet : Sheet) (e : readSheet bytes ≡ read sheet)
     sized-after = ap length records ∙ length-row 16 _
 
     pub holders-kept : (hs : List ℕ) → hs ≡ holders sheet (st .tasks) → hs ≡ holders sheet (a .tasks)
-    holders-kept hs eh = eh ∙ sym (holders-released sheet st) ∙ ap (holders sheet) (sym records)
+    holders-kept hs eh = eh ∙ sym (holders-released bytes sheet e st parts) ∙ ap (holders sheet) (sym records)
 
     module _ (x : ℕ) (ex : x ≡ runnerByte (runner sheet (a .tasks))) (b : State) (eb : b ≡ withTasks a (afterRunner (runnerNamed x) sheet (a .t) (a .tasks)))
         (hs : List ℕ) (eh : hs ≡ holders sheet (st .tasks)) where
@@ -87,9 +88,9 @@ module _ (bytes : List ℕ) (sheet : Sheet) (e : readSheet bytes ≡ read sheet)
       unfolding runnerByte runnerOf
       holders-nobody h =
           holders-kept hs eh ∙ ap (holders sheet) records
-          ∙ sym (holders-still bytes sheet e st parts (λ i z.
+          ∙ sym (holders-still bytes sheet e st parts (runner sheet (afterReleases sheet st)) (may-run bytes sheet e st parts) (λ i z.
           let byte : x ≡ i = byte-of sheet st a x ea ex ∙ ap runnerByte z in
-          let rank = runner-runs sheet (afterReleases sheet st) i z .rank in
+          let rank = runner-below sheet (afterReleases sheet st) i z in
           omega arith))
           ∙ ap (holders sheet) (sym spent)
 
@@ -104,7 +105,7 @@ module _ (bytes : List ℕ) (sheet : Sheet) (e : readSheet bytes ≡ read sheet)
           ∙ ap (λ (y : List TaskRecord). afterTick x (taskAt sheet x) (recordAt y x .job) (recordAt (b .tasks) x .job) hs) records
           ∙ ap (λ (y : List TaskRecord). afterTick x (taskAt sheet x) (recordAt (afterReleases sheet st) x .job) (recordAt y x .job) hs) spent
           ∙ ap (afterTick x (taskAt sheet x) (recordAt (afterReleases sheet st) x .job) (recordAt next x .job)) (holders-kept hs eh ∙ ap (holders sheet) records)
-          ∙ sym (holders-ticked bytes sheet e st parts x who early)
+          ∙ sym (holders-ticked bytes sheet e st parts (runner sheet (afterReleases sheet st)) (may-run bytes sheet e st parts) x who)
           ∙ ap (holders sheet) (sym spent)
 
 -- the parts of a tick are the tick

@@ -3,30 +3,30 @@ use Prim.Native.Nat.{ℕ, zero, suc, _+_, _-_, _≤_, _<_, max}
 use mathlib.Core.Path.{_≡_, refl, sym, ap, _∙_, subst}
 use mathlib.Core.Logic.{_⊎_, inl, inr, ⊎-elim}
 use mathlib.Core.List.{List}
-use mathlib.Core.Bool.{Bool, true, false, _&&_, _||_}
+use mathlib.Core.Bool.{Bool, true, false}
 use native.Mathlib.Omega.{arith}
 use lib.ListN.{length, getD-replicate}
-use borrow.Author.Tests.{ltb-true, eqb-true}
-use Rattle.rules.specs.Words.{if_then_else_, _<?_, _=?_, any, among}
-use Rattle.rules.specs.Sheet.{Task, Sheet, taskAt, isLock, heldOnTop, held}
+use borrow.Author.Tests.{eqb-true}
+use Rattle.rules.specs.Words.{if_then_else_, _=?_, any, among}
+use Rattle.rules.specs.Sheet.{Task, Sheet, taskAt, heldOnTop, held}
 use Rattle.rules.specs.Reading.{read, readSheet}
 use Rattle.rules.specs.Fields.{Count, Releases, Completions, Misses, TicksRun, TicksBlocked, WorstResponse, count, up, noJob, blank, start}
 use Rattle.rules.specs.Record.{recordAt, behind, ahead, carries, holds, possible}
-use Rattle.rules.specs.Choice.{Runner, job, stuck, idle, runnerByte, locks, ceiling, atRun, fresh, goes, heldByOther, freeOfCeilings, mayGo, runner}
+use Rattle.rules.specs.Choice.{Runner, job, stuck, idle, runnerByte, heldByOther, runner}
 use Rattle.rules.specs.Tick.{released, afterReleases, completed, advanced, spent, afterRunner, closed, runnerOf, tick}
 use Rattle.rules.specs.Run.{after}
-use Rattle.rules.specs.Laws.{TaskLimits, StartPossible, TickPossible}
+use Rattle.rules.specs.Laws.{TaskLimits, takes, MayRun, RunnerMayRun, StartPossible, TickPossible}
 use Rattle.rules.specs.declared.Job.{Job}
 use Rattle.rules.specs.declared.Counts.{Counts}
 use Rattle.rules.specs.declared.TaskRecord.{TaskRecord}
 use Rattle.rules.specs.declared.State.{State}
-use Rattle.rules.proofs.Laws.{sure, below, true-false, if-cases, implies-yes, some-of, every-at, smallest-le}
+use Rattle.rules.proofs.Laws.{sure, below, true-false, if-cases, some-of}
 use Rattle.rules.proofs.Limits.{acceptedWithinLimits}
-use Rattle.rules.proofs.Walk.{Runs, runner-runs}
+use Rattle.rules.proofs.Runner.{runner-may}
 use Rattle.rules.proofs.Tick.{released-cases, advanced-cases, spent-cases, released-at, past-at, spent-at}
 use Rattle.rules.proofs.Fields.{CountsFit, Within, set-within, blank-counts}
-use Rattle.rules.proofs.Possible.{JobFits, RunnerFits, Possible, possible-parts, parts-possible}
-use Rattle.rules.proofs.Steps.{NextRun, next-run, goes-on-well, begins-well, comes-well, takes, takes-no-run, takes-locks, advanced-carries}
+use Rattle.rules.proofs.Possible.{JobFits, RunnerFits, Single, Possible, possible-parts, parts-possible}
+use Rattle.rules.proofs.Steps.{next-run, goes-on-well, begins-well, comes-well, advanced-carries}
 
 -- no job fits at any tick,
 blank-job : (t : ℕ) (task : Task) → JobFits t task noJob
@@ -125,51 +125,22 @@ job-advanced m t task r τ p f =
     (λ l h. record { rests = λ q. true-false true refl q; release = λ q. f .release p; stands = λ q. comes-well m task (r .job) τ h })
     (λ l h. blank-job (t + 1) task)
 
--- a job that starts holds nothing
-released-carries : (t : ℕ) (task : Task) (r : TaskRecord) (s : ℕ) → carries task (released t task r .job) s ≡ true → carries task (r .job) s ≡ true
+-- a release leaves what a job holds: one that starts holds nothing
+released-carries : (t : ℕ) (task : Task) (r : TaskRecord) (s : ℕ) → carries task (released t task r .job) s ≡ carries task (r .job) s
 unfolding carries behind held heldOnTop among any
-released-carries t task r s = released-cases (λ x. carries task (x .job) s ≡ true → carries task (r .job) s ≡ true) t task r
-    (λ e h. h)
-    (λ e p h. h)
-    (λ e p h. true-false false h refl)
-
--- a job that takes a lock may go only as it is free of ceilings; so no other holds what it takes
-only-free : (fresh free run : Bool) → (if fresh then free else (free || run)) ≡ true → run ≡ false → free ≡ true
-only-free true free run e h = e
-only-free false true run e h = refl
-only-free false false run e h = true-false run e h
-
--- a semaphore it takes has a ceiling of at most its own rank: were it held by another, it would not be free of ceilings
-taken-alone : (sheet : Sheet) (rs : List TaskRecord) (x k s : ℕ) → Runs sheet rs x → takes (taskAt sheet x) (recordAt rs x .job) s ≡ true
-    → k < 16 → s < 16 → holds sheet rs k s ≡ true → k ≡ x
-unfolding mayGo goes freeOfCeilings heldByOther ceiling
-taken-alone sheet rs x k s ρ e lk ls h =
-    let task = taskAt sheet x in
-    let j = recordAt rs x .job in
-    let free = only-free (sheet .mode =? 1 && fresh task j && any isLock (task .steps)) (freeOfCeilings sheet rs x) (atRun task j) (ρ .may) (takes-no-run task j s e) in
-    ⊎-elim
-    (λ u. eqb-true k x u)
-    (λ u.
-    let other : heldByOther sheet rs x s ≡ true = some-of 16 _ k lk (rw u h) in
-    let above = ltb-true x (ceiling sheet s) (implies-yes (heldByOther sheet rs x s) (x <? ceiling sheet s) (every-at 16 _ free s ls) other) in
-    let ceiled = smallest-le 16 255 (λ i. locks (taskAt sheet i) s) x (ρ .rank) (takes-locks task j s e) in
-    absurd (omega (arith, above, ceiled)))
-    (sure (k =? x))
+released-carries t task r s = released-cases (λ x. carries task (x .job) s ≡ carries task (r .job) s) t task r
+    (λ e. refl)
+    (λ e p. refl)
+    (λ e p. rw p refl)
 
 -- a tick of a possible state, rank by rank
 module _ (bytes : List ℕ) (sheet : Sheet) (e : readSheet bytes ≡ read sheet) (st : State) (π : Possible sheet st) where
-  -- the sheet's tasks, the records after the releases, the runner, and the records after it
+  -- the sheet's tasks, and the records after the releases
   abbrev n : ℕ
   n = length (sheet .tasks)
 
   abbrev rs : List TaskRecord
   rs = afterReleases sheet st
-
-  abbrev x : Runner
-  x = runner sheet rs
-
-  abbrev next : List TaskRecord
-  next = afterRunner x sheet (st .t) rs
 
   -- after the releases
   each-released : (P : TaskRecord → Type 0) (i : ℕ) → i < 16
@@ -192,91 +163,110 @@ module _ (bytes : List ℕ) (sheet : Sheet) (e : readSheet bytes ≡ read sheet)
       (λ u. job-waits (st .t) (taskAt sheet i) (recordAt (st .tasks) i .job) (π .job i l))
 
   -- what they hold,
-  held-before : (i s : ℕ) → i < 16 → holds sheet rs i s ≡ true → holds sheet (st .tasks) i s ≡ true
+  pub holds-released : (i s : ℕ) → i < 16 → holds sheet rs i s ≡ holds sheet (st .tasks) i s
   unfolding holds
-  held-before i s l = each-released (λ r. carries (taskAt sheet i) (r .job) s ≡ true → carries (taskAt sheet i) (recordAt (st .tasks) i .job) s ≡ true) i l
+  holds-released i s l = each-released (λ r. carries (taskAt sheet i) (r .job) s ≡ carries (taskAt sheet i) (recordAt (st .tasks) i .job) s) i l
       (λ u. released-carries (st .t) (taskAt sheet i) (recordAt (st .tasks) i) s)
-      (λ u h. h)
+      (λ u. refl)
+
+  pub released-single : Single (holds sheet rs)
+  released-single i j s li lj ls p q = π .single i j s li lj ls (sym (holds-released i s li) ∙ p) (sym (holds-released j s lj) ∙ q)
 
   -- and the records at n and above
   pub released-past : (i : ℕ) → i < 16 → n ≤ i → recordAt rs i ≡ blank
   released-past i l h = past-at sheet st i l h ∙ π .past i l h
 
-  -- the runner is pending, so it is a rank below n
-  pub runner-rank : (k : ℕ) → x ≡ job k → k < n
-  runner-rank k z =
-      let ρ = runner-runs sheet rs k z in
-      ⊎-elim (λ u. u)
-      (λ (u : n ≤ k). true-false (recordAt rs k .job .pending) (ρ .pending) (ap (λ (r : TaskRecord). r .job .pending) (released-past k (ρ .rank) u)))
-      (below k n)
+  -- the runner that the choice gives,
+  pub may-run : (i : ℕ) → runner sheet rs ≡ job i → MayRun sheet rs i
+  may-run i z = runner-may sheet rs i z (λ k l u. ap (λ (r : TaskRecord). r .job .pending) (released-past k l u))
 
-  -- and comes to a run
-  pub runner-next : (i : ℕ) → x ≡ job i → NextRun (taskAt sheet i) (recordAt rs i .job)
-  runner-next i z =
-      let ρ = runner-runs sheet rs i z in
-      next-run (sheet .semaphores) (taskAt sheet i) (recordAt rs i .job) (acceptedWithinLimits bytes sheet e .each i (runner-rank i z)) (released-fits i (ρ .rank) .stands (ρ .pending))
+  -- and what the tick does with any that may run
+  module _ (x : Runner) (may : (i : ℕ) → x ≡ job i → MayRun sheet rs i) where
+    abbrev next : List TaskRecord
+    next = afterRunner x sheet (st .t) rs
 
-  -- after the runner
-  next-fits : (i : ℕ) → i < 16 → JobFits (st .t + 1) (taskAt sheet i) (recordAt next i .job)
-  next-fits i l = subst (λ (r : TaskRecord). JobFits (st .t + 1) (taskAt sheet i) (r .job)) (sym (spent-at x sheet (st .t) rs i l))
-      (spent-cases (λ r. JobFits (st .t + 1) (taskAt sheet i) (r .job)) x (st .t) i (taskAt sheet i) (recordAt rs i)
-      (λ z. job-advanced (sheet .semaphores) (st .t) (taskAt sheet i) (recordAt rs i) (acceptedWithinLimits bytes sheet e .each i (runner-rank i z)) (runner-runs sheet rs i z .pending) (released-fits i l))
-      (λ k z u p. released-fits i l)
-      (λ z p. released-fits i l))
+    -- it is one of sixteen
+    pub runner-rank : (i : ℕ) → x ≡ job i → i < 16
+    runner-rank i z = omega (arith, may i z .rank, acceptedWithinLimits bytes sheet e .tasksTo)
 
-  -- the records at n and above: none of them runs, and none is blocked
-  next-past : (i : ℕ) → i < 16 → n ≤ i → recordAt next i ≡ blank
-  next-past i l h = spent-at x sheet (st .t) rs i l ∙ spent-cases (λ r. r ≡ blank) x (st .t) i (taskAt sheet i) (recordAt rs i)
-      (λ z. absurd (omega (arith, runner-rank i z)))
-      (λ k z u p. absurd (omega (arith, runner-rank k z)))
-      (λ z p. released-past i l h)
+    -- after the runner
+    next-fits : (i : ℕ) → i < 16 → JobFits (st .t + 1) (taskAt sheet i) (recordAt next i .job)
+    next-fits i l = subst (λ (r : TaskRecord). JobFits (st .t + 1) (taskAt sheet i) (r .job)) (sym (spent-at x sheet (st .t) rs i l))
+        (spent-cases (λ r. JobFits (st .t + 1) (taskAt sheet i) (r .job)) x (st .t) i (taskAt sheet i) (recordAt rs i)
+        (λ z. job-advanced (sheet .semaphores) (st .t) (taskAt sheet i) (recordAt rs i) (acceptedWithinLimits bytes sheet e .each i (may i z .rank)) (may i z .pending) (released-fits i l))
+        (λ k z u p. released-fits i l)
+        (λ z p. released-fits i l))
 
-  -- a job holds what it held, or it is the runner and took it
-  abbrev HeldOrTook : (i s : ℕ) → Type 0
-  HeldOrTook i s = (holds sheet rs i s ≡ true) ⊎ ((x ≡ job i) × (takes (taskAt sheet i) (recordAt rs i .job) s ≡ true))
+    -- the records at n and above: none of them runs, and none is blocked
+    next-past : (i : ℕ) → i < 16 → n ≤ i → recordAt next i ≡ blank
+    next-past i l h = spent-at x sheet (st .t) rs i l ∙ spent-cases (λ r. r ≡ blank) x (st .t) i (taskAt sheet i) (recordAt rs i)
+        (λ z. absurd (omega (arith, may i z .rank)))
+        (λ k z u p. absurd (omega (arith, may k z .rank)))
+        (λ z p. released-past i l h)
 
-  held-or-took : (i s : ℕ) → i < 16 → holds sheet next i s ≡ true → HeldOrTook i s
-  unfolding holds
-  held-or-took i s l h = spent-cases (λ r. carries (taskAt sheet i) (r .job) s ≡ true → HeldOrTook i s) x (st .t) i (taskAt sheet i) (recordAt rs i)
-      (λ z c. ⊎-elim inl (λ v. inr (z, v)) (advanced-carries (st .t) (taskAt sheet i) (recordAt rs i) s (runner-runs sheet rs i z .pending) (runner-next i z) c))
-      (λ k z u p c. inl c)
-      (λ z p c. inl c)
-      (subst (λ (r : TaskRecord). carries (taskAt sheet i) (r .job) s ≡ true) (spent-at x sheet (st .t) rs i l) h)
+    -- a job holds what it held, or it is the runner and took it
+    abbrev HeldOrTook : (i s : ℕ) → Type 0
+    HeldOrTook i s = (holds sheet rs i s ≡ true) ⊎ ((x ≡ job i) × (takes (taskAt sheet i) (recordAt rs i .job) s ≡ true))
 
-  -- so no semaphore is held by two
-  next-single : (i j s : ℕ) → i < 16 → j < 16 → s < 16 → holds sheet next i s ≡ true → holds sheet next j s ≡ true → i ≡ j
-  next-single i j s li lj ls hi hj = go (held-or-took i s li hi) (held-or-took j s lj hj)
-    where
-      go : HeldOrTook i s → HeldOrTook j s → i ≡ j
-      go (inl a) (inl b) = π .single i j s li lj ls (held-before i s li a) (held-before j s lj b)
-      go (inl a) (inr b) = taken-alone sheet rs j i s (runner-runs sheet rs j (b .0)) (b .1) li ls a
-      go (inr a) (inl b) = sym (taken-alone sheet rs i j s (runner-runs sheet rs i (a .0)) (a .1) lj ls b)
-      go (inr a) (inr b) = let z : job i ≡ job j = sym (a .0) ∙ b .0 in cc
+    held-or-took : (i s : ℕ) → i < 16 → holds sheet next i s ≡ true → HeldOrTook i s
+    unfolding holds
+    held-or-took i s l h = spent-cases (λ r. carries (taskAt sheet i) (r .job) s ≡ true → HeldOrTook i s) x (st .t) i (taskAt sheet i) (recordAt rs i)
+        (λ z c. ⊎-elim inl (λ v. inr (z, v)) (advanced-carries (st .t) (taskAt sheet i) (recordAt rs i) s (may i z .pending) c))
+        (λ k z u p c. inl c)
+        (λ z p c. inl c)
+        (subst (λ (r : TaskRecord). carries (taskAt sheet i) (r .job) s ≡ true) (spent-at x sheet (st .t) rs i l) h)
 
-  -- the runner's byte, and the switches
-  byte-fits : (y : Runner) → ((k : ℕ) → y ≡ job k → k < n) → RunnerFits n (runnerByte y)
-  unfolding runnerByte
-  byte-fits (job k) h = inl (h k refl)
-  byte-fits stuck h = inr (inl refl)
-  byte-fits idle h = inr (inr refl)
+    -- so no semaphore is held by two: what the runner took no other holds
+    took-alone : (i k s : ℕ) → k < 16 → s < 16 → x ≡ job i → takes (taskAt sheet i) (recordAt rs i .job) s ≡ true → holds sheet rs k s ≡ true → k ≡ i
+    unfolding heldByOther
+    took-alone i k s lk ls z t h = ⊎-elim
+        (λ u. eqb-true k i u)
+        (λ u. true-false (heldByOther sheet rs i s) (some-of 16 _ k lk (rw u h)) (may i z .alone s ls t))
+        (sure (k =? i))
 
-  -- at most one switch a tick
-  switches-rise : (b : Bool) → (if b then st .switches else st .switches + 1) ≤ st .t + 1
-  switches-rise true = omega (arith, π .switches)
-  switches-rise false = omega (arith, π .switches)
+    pub next-single : Single (holds sheet next)
+    next-single i j s li lj ls hi hj = go (held-or-took i s li hi) (held-or-took j s lj hj)
+      where
+        go : HeldOrTook i s → HeldOrTook j s → i ≡ j
+        go (inl a) (inl b) = released-single i j s li lj ls a b
+        go (inl a) (inr b) = took-alone j i s li ls (b .0) (b .1) a
+        go (inr a) (inl b) = sym (took-alone i j s lj ls (a .0) (a .1) b)
+        go (inr a) (inr b) = let z : job i ≡ job j = sym (a .0) ∙ b .0 in cc
 
-  -- all parts together
+    -- the runner's byte, and the switches
+    byte-fits : (y : Runner) → ((k : ℕ) → y ≡ job k → k < n) → RunnerFits n (runnerByte y)
+    unfolding runnerByte
+    byte-fits (job k) h = inl (h k refl)
+    byte-fits stuck h = inr (inl refl)
+    byte-fits idle h = inr (inr refl)
+
+    -- at most one switch a tick
+    switches-rise : (b : Bool) → (if b then st .switches else st .switches + 1) ≤ st .t + 1
+    switches-rise true = omega (arith, π .switches)
+    switches-rise false = omega (arith, π .switches)
+
+    -- all parts together
+    pub ticked-possible : st .t < 60000 → Possible sheet (closed st (runnerByte x) next)
+    unfolding closed
+    ticked-possible early = record {
+      time = omega arith;
+      switches = switches-rise (runnerByte x =? st .last);
+      last = byte-fits x (λ k z. may k z .rank);
+      counts = λ i l. subst (λ (r : TaskRecord). CountsFit (st .t + 1) (r .counts)) (sym (spent-at x sheet (st .t) rs i l)) (counts-spent x (st .t) i (taskAt sheet i) (recordAt rs i) (released-rising i l));
+      job = next-fits;
+      past = next-past;
+      single = next-single;
+    }
+
+  -- of the tick itself
   pub tick-parts : st .t < 60000 → Possible sheet (tick sheet st)
-  unfolding tick runnerOf closed
-  tick-parts early = record {
-    time = omega arith;
-    switches = switches-rise (runnerByte x =? st .last);
-    last = byte-fits x runner-rank;
-    counts = λ i l. subst (λ (r : TaskRecord). CountsFit (st .t + 1) (r .counts)) (sym (spent-at x sheet (st .t) rs i l)) (counts-spent x (st .t) i (taskAt sheet i) (recordAt rs i) (released-rising i l));
-    job = next-fits;
-    past = next-past;
-    single = next-single;
-  }
+  unfolding tick runnerOf
+  tick-parts early = ticked-possible (runner sheet rs) may-run early
+
+-- THE LAW: the choice gives a runner that may run
+pub runnerMayRun : RunnerMayRun
+unfolding runnerOf
+runnerMayRun bytes sheet e st p = may-run bytes sheet e st (possible-parts sheet st p)
 
 -- THE LAW: a tick of a possible state below tick 60,000 gives a possible state
 pub tickPossible : TickPossible

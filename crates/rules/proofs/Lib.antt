@@ -12,4 +12,5 @@ pub mod Limits
 pub mod Fields
 pub mod Possible
 pub mod Steps
+pub mod Runner
 pub mod Kept

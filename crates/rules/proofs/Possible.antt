@@ -28,6 +28,27 @@ pub record JobFits (t : ℕ) (task : Task) (j : Job) : Type 0 where
 abbrev pub RunnerFits : (n x : ℕ) → Type 0
 RunnerFits n x = (x < n) ⊎ (x ≡ 254) ⊎ (x ≡ 255)
 
+-- no semaphore is held by two
+abbrev pub Single : (ℕ → ℕ → Bool) → Type 0
+Single has = (i j s : ℕ) → i < 16 → j < 16 → s < 16 → has i s ≡ true → has j s ≡ true → i ≡ j
+
+module _ (sheet : Sheet) (records : List TaskRecord) where
+  pub held-by-one : noneHeldByTwo sheet records ≡ true → Single (holds sheet records)
+  unfolding noneHeldByTwo
+  held-by-one e i j s li lj ls hi hj =
+      eqb-true i j (implies-yes (holds sheet records i s && holds sheet records j s) (i =? j)
+      (every-at 16 _ (every-at 16 _ (every-at 16 _ e s ls) i li) j lj) (and-both _ _ hi hj))
+
+  -- and back
+  pub none-by-two : Single (holds sheet records) → noneHeldByTwo sheet records ≡ true
+  unfolding noneHeldByTwo
+  none-by-two single = every-of 16 _ (λ s ls. every-of 16 _ (λ i li. every-of 16 _ (λ j lj.
+      let both = holds sheet records i s && holds sheet records j s in
+      ⊎-elim
+      (λ (u : both ≡ true). implied both (i =? j) (eq-eqb i j (single i j s li lj ls (and-left (holds sheet records i s) _ u) (and-right (holds sheet records i s) _ u))))
+      (λ (u : both ≡ false). rw u refl)
+      (sure both))))
+
 -- counts and job of each rank fit, records at n and above are zero, no semaphore is held by two
 pub record Possible (sheet : Sheet) (st : State) : Type 0 where
   pub time : st .t ≤ 60000
@@ -36,7 +57,7 @@ pub record Possible (sheet : Sheet) (st : State) : Type 0 where
   pub counts : (i : ℕ) → i < 16 → CountsFit (st .t) (recordAt (st .tasks) i .counts)
   pub job : (i : ℕ) → i < 16 → JobFits (st .t) (taskAt sheet i) (recordAt (st .tasks) i .job)
   pub past : (i : ℕ) → i < 16 → length (sheet .tasks) ≤ i → recordAt (st .tasks) i ≡ blank
-  pub single : (i j s : ℕ) → i < 16 → j < 16 → s < 16 → holds sheet (st .tasks) i s ≡ true → holds sheet (st .tasks) j s ≡ true → i ≡ j
+  pub single : Single (holds sheet (st .tasks))
 
 -- a job that is not pending and whose numbers are zero is no job
 rests : (j : Job) → j .pending ≡ false → zeros (place j) ≡ true → j ≡ noJob
@@ -110,7 +131,7 @@ module _ (sheet : Sheet) (st : State) where
 
   -- the test tells every part
   pub possible-parts : possible sheet st ≡ true → Possible sheet st
-  unfolding possible noneHeldByTwo recordFits Rank
+  unfolding possible recordFits Rank
   possible-parts e =
       let n = length (sheet .tasks) in
       let upTo4 = and-left _ (noneHeldByTwo sheet (st .tasks)) e in
@@ -127,15 +148,12 @@ module _ (sheet : Sheet) (st : State) where
             job-fits (st .t) (taskAt sheet i) (r .job) (and-right (countsFit (st .t) (r .counts)) _ (and-left _ (n ≤? i ⇒ zeroRecord r) (rank i l)));
         past = λ i l h. let r = recordAt (st .tasks) i in
             is-blank r (implies-yes (n ≤? i) (zeroRecord r) (and-right (countsFit (st .t) (r .counts) && jobFits (st .t) (taskAt sheet i) (r .job)) _ (rank i l)) (le-leb n i h));
-        single = λ i j s li lj ls hi hj.
-            let at-s = every-at 16 _ (and-right (st .t ≤? 60000 && st .switches ≤? st .t && runnerFits n (st .last) && every 16 Rank) _ e) s ls in
-            let at-i = every-at 16 _ at-s i li in
-            eqb-true i j (implies-yes (holds sheet (st .tasks) i s && holds sheet (st .tasks) j s) (i =? j) (every-at 16 _ at-i j lj) (and-both _ _ hi hj));
+        single = held-by-one sheet (st .tasks) (and-right (st .t ≤? 60000 && st .switches ≤? st .t && runnerFits n (st .last) && every 16 Rank) _ e);
       }
 
   -- and the parts give the test
   pub parts-possible : Possible sheet st → possible sheet st ≡ true
-  unfolding possible noneHeldByTwo recordFits Rank zeroRecord zeros place counted all
+  unfolding possible recordFits Rank zeroRecord zeros place counted all
   parts-possible f =
       let n = length (sheet .tasks) in
       let last = fit-runner n (st .last) (f .last) in
@@ -146,12 +164,7 @@ module _ (sheet : Sheet) (st : State) where
       (λ (u : (n ≤? i) ≡ true). implied (n ≤? i) (zeroRecord r) (ap zeroRecord (f .past i l (leb-true n i u))))
       (λ (u : (n ≤? i) ≡ false). rw u refl)
       (sure (n ≤? i)))) in
-      let single : noneHeldByTwo sheet (st .tasks) ≡ true = every-of 16 _ (λ s ls. every-of 16 _ (λ i li. every-of 16 _ (λ j lj.
-      let both = holds sheet (st .tasks) i s && holds sheet (st .tasks) j s in
-      ⊎-elim
-      (λ (u : both ≡ true). implied both (i =? j) (eq-eqb i j (f .single i j s li lj ls (and-left (holds sheet (st .tasks) i s) _ u) (and-right (holds sheet (st .tasks) i s) _ u))))
-      (λ (u : both ≡ false). rw u refl)
-      (sure both)))) in
+      let single = none-by-two sheet (st .tasks) (f .single) in
       rw (le-leb _ _ (f .time), le-leb _ _ (f .switches), last, rank, single) refl
 
 -- a job that stands well stands inside its steps

@@ -1,5 +1,5 @@
 -- A job along its steps: the run it comes to, the step behind that run's unlocks, and what it holds there.
-use Prim.Native.Nat.{ℕ, suc, _+_, _-_, _≤_, _<_}
+use Prim.Native.Nat.{ℕ, zero, suc, _+_, _-_, _≤_, _<_}
 use mathlib.Core.Path.{_≡_, refl, sym, ap, _∙_, subst}
 use mathlib.Core.Logic.{_⊎_, inl, inr, ⊎-elim}
 use mathlib.Core.List.{List, [], _∷_}
@@ -9,16 +9,16 @@ use lib.ListN.{length, take, drop, length-drop}
 use lib.Seq.{drop-drop, take-add}
 use borrow.Author.Tests.{leb-true, le-leb, eq-eqb, ne-eqb, not-true}
 use Rattle.rules.specs.Words.{_≤?_, _=?_, within, any, among, leading}
-use Rattle.rules.specs.Sheet.{Step, run, lock, unlock, Task, Body, end, aRun, aSection, isRun, isLock, isUnlock, isLockOf, without, heldOnTop, held}
+use Rattle.rules.specs.Sheet.{Step, run, lock, unlock, Task, Body, end, aRun, aSection, isLock, isUnlock, isLockOf, heldOnTop, held}
 use Rattle.rules.specs.Reading.{afterLock}
 use Rattle.rules.specs.Record.{behind, ahead, carries, standsWell}
-use Rattle.rules.specs.Choice.{locks, atRun, full}
+use Rattle.rules.specs.Choice.{full}
 use Rattle.rules.specs.Tick.{nextRun, leftOfRun, behindUnlocks, advanced}
-use Rattle.rules.specs.Laws.{All, StepLimits, TaskLimits}
+use Rattle.rules.specs.Laws.{All, StepLimits, TaskLimits, takes}
 use Rattle.rules.specs.declared.Job.{Job}
 use Rattle.rules.specs.declared.TaskRecord.{TaskRecord}
-use Rattle.rules.proofs.Laws.{true-false, and-left, and-right, and-both, or-right, any-take, any-drop, all-drop}
-use Rattle.rules.proofs.Choice.{among-without, held-locked}
+use Rattle.rules.proofs.Laws.{true-false, and-left, and-right, and-both, or-cases, or-right, all-drop}
+use Rattle.rules.proofs.Choice.{held-locked}
 use Rattle.rules.proofs.Nesting.{nests, held-snoc, nests-on}
 use Rattle.rules.proofs.Tick.{advanced-cases}
 
@@ -141,67 +141,62 @@ comes-well m task j τ l =
     full-stands m (drop next steps) (all-drop (StepLimits m) next steps (τ .steps)) (omega (arith, length-drop next steps))
     (ap (leading isUnlock) (sym (drop-drop (leading isUnlock rest) (nextRun task j + 1) steps)) ∙ no-more rest)
 
--- 5. The runner takes the locks before its next run: is one of them of s
-unfoldable pub takes : Task → Job → (s : ℕ) → Bool
-takes task j s = any (isLockOf s) (take (leading isLock (ahead task j)) (ahead task j))
-
--- then it stands at no run, and its task has a lock of s
-pub takes-no-run : (task : Task) (j : Job) (s : ℕ) → takes task j s ≡ true → atRun task j ≡ false
-unfolding takes atRun any leading isRun isLock
-takes-no-run task j s e = go (ahead task j) e
-  where
-    go : (steps : List Step) → any (isLockOf s) (take (leading isLock steps) steps) ≡ true → any isRun (take 1 steps) ≡ false
-    go [] e = refl
-    go (run n ∷ steps) e = true-false false e refl
-    go (lock u ∷ steps) e = refl
-    go (unlock u ∷ steps) e = refl
-
--- and its task has a lock of s
-pub takes-locks : (task : Task) (j : Job) (s : ℕ) → takes task j s ≡ true → locks task s ≡ true
-unfolding takes locks ahead
-takes-locks task j s e = any-drop (isLockOf s) (j .position) (task .steps) (any-take (isLockOf s) (leading isLock (ahead task j)) (ahead task j) e)
-
--- at its run it holds what it held before and what it took
-held-at-run : (task : Task) (j : Job) (s : ℕ) → among s (held (take (nextRun task j) (task .steps))) ≡ true
-    → (among s (held (behind task j)) ≡ true) ⊎ (takes task j s ≡ true)
-unfolding nextRun behind ahead takes held
-held-at-run task j s e =
-    let before = take (j .position) (task .steps) in
-    let taken = take (leading isLock (ahead task j)) (ahead task j) in
-    let parts = take-add (j .position) (leading isLock (ahead task j)) (task .steps) in
-    held-locked s (held before) taken (sym (ap (λ (steps : List Step). among s (held steps)) parts ∙ ap (among s) (held-snoc [] before taken)) ∙ e)
-
--- behind its run and the unlocks it holds no more
-unlocks-free : (s : ℕ) (h : List ℕ) (steps : List Step) → among s (heldOnTop h (take (leading isUnlock steps) steps)) ≡ true → among s h ≡ true
-unfolding heldOnTop leading isUnlock
-unlocks-free s h [] e = e
-unlocks-free s h (run n ∷ steps) e = e
-unlocks-free s h (lock u ∷ steps) e = e
-unlocks-free s h (unlock u ∷ steps) e = among-without s u h (unlocks-free s (without u h) steps e)
-
--- its run changes nothing, and then come only unlocks
-held-behind-run : (task : Task) (j : Job) (s : ℕ) → NextRun task j → among s (held (take (behindUnlocks task j) (task .steps))) ≡ true
-    → among s (held (take (nextRun task j) (task .steps))) ≡ true
-unfolding behindUnlocks held heldOnTop
-held-behind-run task j s ν e =
+-- what a job holds once it has passed some of the steps ahead: these on top of what it held
+pub held-passed : (task : Task) (j : Job) (q : ℕ) → j .position ≤ q
+    → held (take q (task .steps)) ≡ heldOnTop (held (behind task j)) (take (q - j .position) (ahead task j))
+unfolding held behind ahead
+held-passed task j q l =
+    let p = j .position in
     let steps = task .steps in
-    let k = nextRun task j in
-    let rest = drop (k + 1) steps in
-    let taken = take (leading isUnlock rest) rest in
-    let over : held (take (k + 1) steps) ≡ held (take k steps) =
-    ap held (take-add k 1 steps) ∙ held-snoc [] (take k steps) (take 1 (drop k steps)) ∙ ap (λ (xs : List Step). heldOnTop (held (take k steps)) (take 1 xs)) (ν .there) in
-    let parts : held (take (behindUnlocks task j) steps) ≡ heldOnTop (held (take k steps)) taken =
-    ap held (take-add (k + 1) (leading isUnlock rest) steps) ∙ held-snoc [] (take (k + 1) steps) taken ∙ ap (λ (h : List ℕ). heldOnTop h taken) over in
-    unlocks-free s (held (take k steps)) rest (sym (ap (among s) parts) ∙ e)
+    let split : q ≡ p + (q - p) = omega arith in
+    ap (λ (k : ℕ). held (take k steps)) split ∙ ap held (take-add p (q - p) steps) ∙ held-snoc [] (take p steps) (take (q - p) (drop p steps))
+
+-- among unlocks stands no lock
+unlocks-only : (s m : ℕ) (steps : List Step) → m ≤ leading isUnlock steps → any (isLockOf s) (take m steps) ≡ false
+unfolding any isLockOf leading isUnlock
+unlocks-only s zero steps l = refl
+unlocks-only s (suc m) [] l = refl
+unlocks-only s (suc m) (run n ∷ steps) l = absurd (omega arith)
+unlocks-only s (suc m) (lock u ∷ steps) l = absurd (omega arith)
+unlocks-only s (suc m) (unlock u ∷ steps) l = unlocks-only s m steps (omega arith)
+
+-- so of locks, one more step and unlocks only the first part locks
+locks-lead : (s m : ℕ) (steps : List Step) → m ≤ suc (leading isLock steps + leading isUnlock (drop (suc (leading isLock steps)) steps))
+    → any (isLockOf s) (take m steps) ≡ true → any (isLockOf s) (take (leading isLock steps) steps) ≡ true
+unfolding any isLockOf leading isLock
+locks-lead s zero steps l e = true-false false e refl
+locks-lead s (suc m) [] l e = e
+locks-lead s (suc m) (run n ∷ steps) l e = true-false (any (isLockOf s) (take m steps)) e (unlocks-only s m steps (omega arith))
+locks-lead s (suc m) (unlock u ∷ steps) l e = true-false (any (isLockOf s) (take m steps)) e (unlocks-only s m steps (omega arith))
+locks-lead s (suc m) (lock u ∷ steps) l e = ⊎-elim
+    (λ v. rw v refl)
+    (λ v. or-right (u =? s) _ (locks-lead s m steps (omega arith) v))
+    (or-cases (u =? s) (any (isLockOf s) (take m steps)) e)
+
+-- what the runner locks on its way to a position in this tick, it takes
+pub passed-takes : (task : Task) (j : Job) (q s : ℕ) → q ≤ behindUnlocks task j
+    → any (isLockOf s) (take (q - j .position) (ahead task j)) ≡ true → takes task j s ≡ true
+unfolding behindUnlocks nextRun takes ahead
+passed-takes task j q s l e =
+    let p = j .position in
+    let steps = task .steps in
+    let n = leading isLock (drop p steps) in
+    let further : drop (p + n + 1) steps ≡ drop (suc n) (drop p steps) =
+    (let z : p + n + 1 ≡ p + suc n = omega arith in ap (λ (k : ℕ). drop k steps) z) ∙ sym (drop-drop (suc n) p steps) in
+    locks-lead s (q - p) (drop p steps) (omega (arith, ap (leading isUnlock) further)) e
 
 -- so the runner holds afterwards only what it held before or took
-pub advanced-carries : (t : ℕ) (task : Task) (r : TaskRecord) (s : ℕ) → r .job .pending ≡ true → NextRun task (r .job)
+pub advanced-carries : (t : ℕ) (task : Task) (r : TaskRecord) (s : ℕ) → r .job .pending ≡ true
     → carries task (advanced t task r .job) s ≡ true → (carries task (r .job) s ≡ true) ⊎ (takes task (r .job) s ≡ true)
-unfolding carries behind
-advanced-carries t task r s p ν =
-    let at-run : among s (held (take (nextRun task (r .job)) (task .steps))) ≡ true → (carries task (r .job) s ≡ true) ⊎ (takes task (r .job) s ≡ true) =
-    λ e. ⊎-elim (λ u. inl (and-both (r .job .pending) _ p u)) inr (held-at-run task (r .job) s e) in
-    advanced-cases (λ x. carries task (x .job) s ≡ true → (carries task (r .job) s ≡ true) ⊎ (takes task (r .job) s ≡ true)) t task r
-    (λ l e. at-run e)
-    (λ l h e. at-run (held-behind-run task (r .job) s ν e))
+unfolding carries behind behindUnlocks nextRun
+advanced-carries t task r s p =
+    let j = r .job in
+    let at : (q : ℕ) → j .position ≤ q → q ≤ behindUnlocks task j → among s (held (take q (task .steps))) ≡ true → (carries task j s ≡ true) ⊎ (takes task j s ≡ true) =
+    λ q from to e. ⊎-elim
+    (λ u. inl (and-both (j .pending) _ p u))
+    (λ u. inr (passed-takes task j q s to u))
+    (held-locked s (held (behind task j)) (take (q - j .position) (ahead task j)) (sym (ap (among s) (held-passed task j q from)) ∙ e)) in
+    advanced-cases (λ x. carries task (x .job) s ≡ true → (carries task j s ≡ true) ⊎ (takes task j s ≡ true)) t task r
+    (λ l e. at (nextRun task j) (omega arith) (omega arith) e)
+    (λ l h e. at (behindUnlocks task j) (omega arith) (omega arith) e)
     (λ l h e. true-false false e refl)

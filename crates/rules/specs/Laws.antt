@@ -4,18 +4,19 @@ use mathlib.Core.Path.{_≡_}
 use mathlib.Core.Logic.{_⊎_, _↔_}
 use mathlib.Core.List.{List, [], _∷_, _++_}
 use mathlib.Core.Bool.{Bool, true, false, not, _&&_}
-use lib.ListN.{length}
+use lib.ListN.{length, take}
 use lib.IntN.{ℤ}
 use lib.Signed.{nonNeg}
-use Rattle.rules.specs.Words.{_≤?_}
-use Rattle.rules.specs.Sheet.{Step, run, lock, unlock, Task, Sheet, taskAt, Body, held}
+use Rattle.rules.specs.Words.{_≤?_, any, leading}
+use Rattle.rules.specs.Sheet.{Step, run, lock, unlock, Task, Sheet, taskAt, Body, isLock, isLockOf, held}
 use Rattle.rules.specs.Reading.{read, longestSheet, misplaced, readSheet}
 use Rattle.rules.specs.Fields.{start}
-use Rattle.rules.specs.Record.{possible}
-use Rattle.rules.specs.Choice.{Runner, Walks, topJob, runner}
-use Rattle.rules.specs.Tick.{tick}
+use Rattle.rules.specs.Record.{recordAt, ahead, possible}
+use Rattle.rules.specs.Choice.{Runner, job, Walks, topJob, heldByOther, runner}
+use Rattle.rules.specs.Tick.{afterReleases, runnerOf, tick}
 use Rattle.rules.specs.Bounds.{demand, laxity}
 use Rattle.rules.specs.declared.Head.{Head}
+use Rattle.rules.specs.declared.Job.{Job}
 use Rattle.rules.specs.declared.Refusal.{Refusal}
 use Rattle.rules.specs.declared.TaskRecord.{TaskRecord}
 use Rattle.rules.specs.declared.State.{State}
@@ -79,6 +80,22 @@ pub record Given (x : Refusal) : Type 0 where
 abbrev pub WalksToRunner : Type 0
 WalksToRunner = (sheet : Sheet) (records : List TaskRecord) → topJob records < 16 → (x : Runner)
     → (runner sheet records ≡ x) ↔ Walks sheet records [] (topJob records) x
+
+-- 5. The runner takes the locks before its next run: is one of them of s.
+unfoldable pub takes : Task → Job → (s : ℕ) → Bool
+takes task j s = any (isLockOf s) (take (leading isLock (ahead task j)) (ahead task j))
+
+-- What the rest of a tick needs of its runner, whatever the mode: it is a pending job of the sheet, and no other job holds
+-- what it takes in this tick.
+pub record MayRun (sheet : Sheet) (records : List TaskRecord) (i : ℕ) : Type 0 where
+  pub rank : i < length (sheet .tasks)
+  pub pending : recordAt records i .job .pending ≡ true
+  pub alone : (s : ℕ) → s < 16 → takes (taskAt sheet i) (recordAt records i .job) s ≡ true → heldByOther sheet records i s ≡ false
+
+-- The choice, rules 2 to 4, gives such a runner after the releases of a possible state.
+abbrev pub RunnerMayRun : Type 0
+RunnerMayRun = (bytes : List ℕ) (sheet : Sheet) → readSheet bytes ≡ read sheet → (st : State) → possible sheet st ≡ true
+    → (i : ℕ) → runnerOf sheet st ≡ job i → MayRun sheet (afterReleases sheet st) i
 
 -- The start record is possible, and a tick of a possible state below tick 60,000 gives a possible state.
 abbrev pub StartPossible : Type 0

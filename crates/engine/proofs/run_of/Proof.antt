@@ -14,7 +14,7 @@ use Rattle.rules.specs.declared.State.{State}
 use Rattle.table.specs.Table.{taskOf, sheetOf}
 use Rattle.table.proofs.Laws.{task-at, lies-from}
 use Rattle.holders.specs.Holders.{holders}
-use Rattle.choice.proofs.Moves.{holders-start}
+use Rattle.holders.proofs.Moves.{holders-start}
 use Rattle.effect.specs.Effect.{runnerNamed, Quiet}
 use Rattle.effect.proofs.Laws.{releases-quiet, ran-nobody}
 use Rattle.engine.proofs.Ticks.{room, room-after, switches-room, choosable, sized-after, holders-kept, holders-nobody, holders-runner, tick-parts, byte-of, closed-tasks, quiet-on, after-more, written-none, written-more, run-time, run-possible, run-sized}
