@@ -23,7 +23,7 @@ use Rattle.rules.specs.declared.TaskRecord.{TaskRecord}
 use Rattle.rules.specs.declared.State.{State}
 use Rattle.rules.proofs.Laws.{sure, below, length-row, row-at}
 use Rattle.rules.proofs.Reading.{periods}
-use Rattle.rules.proofs.Tick.{advanced-cases}
+use Rattle.rules.proofs.Tick.{advanced-cases, spent-at}
 use Rattle.table.specs.Table.{here, noEntry, entryOf, taskOf, sheetOf, Tabled}
 use Rattle.table.specs.Steps.{hereIs, ticksOf}
 use Rattle.table.specs.declared.Entry.{Entry}
@@ -304,8 +304,7 @@ spent-runner t x task r a c ea ec = rw (eq-eqb x x refl, ec, ea) refl
 module _ (bytes : List ℕ) (table : Table) (st : State) (x : ℕ) where
   ran-at : (i : ℕ) → i < 16 → recordAt (afterRunner (runnerNamed x) (sheetOf bytes table) (st .t) (st .tasks)) i
       ≡ spent (runnerNamed x) (st .t) i (taskAt (sheetOf bytes table) i) (recordAt (st .tasks) i)
-  unfolding afterRunner recordAt
-  ran-at i l = row-at 16 _ blank i l
+  ran-at i l = spent-at (runnerNamed x) (sheetOf bytes table) (st .t) (st .tasks) i l
 
   ran-length : length (afterRunner (runnerNamed x) (sheetOf bytes table) (st .t) (st .tasks)) ≡ 16
   unfolding afterRunner
