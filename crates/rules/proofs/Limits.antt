@@ -90,7 +90,12 @@ pub sheet-size : (head : Head) (n p : ℕ) → n ≤ 16 → p ≤ 8 + n * longes
 unfolding longestSheet
 sheet-size head n p few near = omega (arith, mul-le-mul-right (longestTask head) few)
 
--- THE LAW: the longest sheet has 3,160 bytes
+-- every field of a task's head lies in it; the step count is the last
+pub fields-inside : (head : Head) → 4 < headLength head
+unfolding headLength
+fields-inside head = omega arith
+
+-- THE LAW: the longest sheet is that of document 01
 pub longest : LongestSheet
 unfolding longestSheet longestTask headLength
 longest head = refl

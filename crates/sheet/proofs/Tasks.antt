@@ -13,7 +13,7 @@ use Rattle.rules.specs.Reading.{Reading, read, refused, refusal, _>>=_, refuse_
 use Rattle.rules.specs.declared.Head.{Head}
 use Rattle.rules.specs.declared.Refusal.{Refusal}
 use Rattle.rules.proofs.Reading.{both-read, got, task-head-passed}
-use Rattle.rules.proofs.Limits.{longest}
+use Rattle.rules.proofs.Limits.{fields-inside, longest}
 use Rattle.table.specs.Table.{stepsAt, taskOf, Lies}
 use Rattle.table.specs.declared.Entry.{Entry}
 use Rattle.sheet.specs.Reader.{entryIn, entered, entryThere, stepsThere, TaskFrom}
@@ -30,16 +30,13 @@ start-fits h p l = omega (arith, longest h)
 -- each field lies in its task's head
 module _ (h : Head) (s : List ℕ) (p start : ℕ) (es : start ≡ p + headLength h) (a : start ≤ length s) where
   pub period-inside : p + 1 < length s
-  unfolding headLength
-  period-inside = omega arith
+  period-inside = omega (arith, fields-inside h)
 
   pub offset-inside : p + 2 + 1 < length s
-  unfolding headLength
-  offset-inside = omega arith
+  offset-inside = omega (arith, fields-inside h)
 
   pub count-inside : p + 4 < length s
-  unfolding headLength
-  count-inside = omega arith
+  count-inside = omega (arith, fields-inside h)
 
 module _ (h : Head) (i : ℕ) (s : List ℕ) (p start : ℕ) (es : start ≡ p + headLength h) where
   pub task-7 : (x : Refusal) → p ≤ length s → length s < start → x ≡ refusal 7 i 0 → refused x ≡ entryThere h i s p

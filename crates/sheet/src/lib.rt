@@ -254,7 +254,7 @@ fn read_steps(s: &[u8], start: usize, m: u8, i: u8, e: Entry) -> TaskRead
     TaskRead::Opened(e, at)
 }
 
-// The place behind the head of a task at a place: the code has the head's length here alone.
+// Where the steps of a task begin: behind its head, whose length the code has here alone.
 fn behind_head(at: usize, h: Head) -> usize
     requires { ⌜ at ≤ longestSheet h ⌝ }
     ensures { λ r. ⌜ (r ≡ at + headLength h) × (r < 65536) ⌝ }
