@@ -115,8 +115,9 @@ fn laxity(tasks: &[Task], bound: i64) -> i64 {
     let mut best = i64::MIN;
     loop {
         let point = walk.iter().map(|multiples| multiples.next).min();
-        let Some(t) = point.filter(|t| *t <= end) else {
-            return best;
+        let t = match point.filter(|t| *t <= end) {
+            Some(t) => t,
+            None => return best,
         };
         if wrong::POINT_SHORT && t == end && best != i64::MIN {
             return best;

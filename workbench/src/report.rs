@@ -23,8 +23,10 @@ fn refused(refusal: Refusal) -> String {
 }
 
 fn report(input: &[u8]) -> Result<String, Refusal> {
-    let (horizon, bytes) = input.split_first_chunk().ok_or(Refusal::plain(1))?;
-    let horizon = u16::from_be_bytes(*horizon);
+    let (horizon, bytes) = match input {
+        [high, low, bytes @ ..] => (u16::from_be_bytes([*high, *low]), bytes),
+        _ => return Err(Refusal::plain(1)),
+    };
     let sheet = Sheet::read(bytes)?;
     let mut trace = vec![0; usize::from(horizon)];
     let record = whole_run(&sheet, horizon, &mut trace)?;

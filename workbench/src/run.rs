@@ -70,7 +70,8 @@ fn full_length(step: Option<Step>) -> u16 {
 /// The first release of a task at or after tick `t`.
 fn release_from(task: &Task, t: u16) -> u32 {
     let (period, offset, t) = (u32::from(task.period), u32::from(task.offset), u32::from(t));
-    offset + t.saturating_sub(offset).div_ceil(period) * period
+    let since = t.saturating_sub(offset);
+    offset + (since + period - 1) / period * period
 }
 
 impl<'a> Run<'a> {
@@ -167,8 +168,9 @@ impl<'a> Run<'a> {
 
     /// Rule 4: hands the candidacy on until one may go.
     fn choose_runner(&self) -> u8 {
-        let Some(top) = self.top_pending() else {
-            return IDLE;
+        let top = match self.top_pending() {
+            Some(top) => top,
+            None => return IDLE,
         };
         let mut candidate = top;
         let mut seen = [false; SIXTEEN];
@@ -177,13 +179,12 @@ impl<'a> Run<'a> {
             if self.asks_nothing(candidate) {
                 return candidate as u8;
             }
-            let Some(obstacle) = self.obstacle(candidate) else {
-                return candidate as u8;
-            };
-            if self.passes(candidate, top, obstacle) {
-                return candidate as u8;
+            match self.obstacle(candidate) {
+                Some(obstacle) if !self.passes(candidate, top, obstacle) => {
+                    candidate = obstacle.holder;
+                }
+                _ => return candidate as u8,
             }
-            candidate = obstacle.holder;
             if seen[candidate] {
                 return STUCK;
             }
@@ -231,7 +232,7 @@ impl<'a> Run<'a> {
                     semaphore,
                     holder,
                 };
-                if nearest.is_none_or(|nearest| found.before(&nearest)) {
+                if nearest.map_or(true, |nearest| found.before(&nearest)) {
                     nearest = Some(found);
                 }
             }

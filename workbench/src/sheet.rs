@@ -42,10 +42,10 @@ pub struct Sheet {
 impl Sheet {
     /// Reads a sheet, or gives the first refusal in the order of the rules.
     pub fn read(bytes: &[u8]) -> Result<Sheet, Refusal> {
-        let (header, rest) = bytes.split_at_checked(HEADER).ok_or(Refusal::plain(1))?;
+        let mut unread = Unread(bytes);
+        let header = unread.take(HEADER).ok_or(Refusal::plain(1))?;
         let task_count = check_header(header)?;
         let semaphores = header[6];
-        let mut unread = Unread(rest);
         let mut tasks = Vec::with_capacity(task_count);
         for rank in 0..task_count {
             tasks.push(read_task(&mut unread, rank, semaphores)?);
@@ -67,8 +67,8 @@ struct Unread<'a>(&'a [u8]);
 impl<'a> Unread<'a> {
     /// The next `count` bytes, if there are so many.
     fn take(&mut self, count: usize) -> Option<&'a [u8]> {
-        let (taken, rest) = self.0.split_at_checked(count)?;
-        self.0 = rest;
+        let taken = self.0.get(..count)?;
+        self.0 = &self.0[count..];
         Some(taken)
     }
 }

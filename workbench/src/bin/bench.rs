@@ -1,6 +1,5 @@
 //! Times the second simulator and, beside it, the programs named.
 
-use std::hint::black_box;
 use std::io::{self, Read, Write};
 use std::path::{Path, PathBuf};
 use std::process::{Command, ExitCode, Stdio};
@@ -8,6 +7,8 @@ use std::time::{Duration, Instant};
 
 use workbench::bounds::laxities;
 use workbench::draft::{case_a, lock, run, unlock, Draft, DraftTask};
+use workbench::record::Record;
+use workbench::refusal::Refusal;
 use workbench::run::whole_run;
 use workbench::sheet::Sheet;
 use workbench::{LAST_TICK, SIXTEEN};
@@ -100,6 +101,13 @@ fn read(draft: &Draft) -> Sheet {
     Sheet::read(&draft.to_bytes()).expect("the sheets here are valid")
 }
 
+/// The value itself, of which the optimiser knows nothing: a function that
+/// comes back from here is called, whatever becomes of its result.
+fn hidden<T: Copy>(value: T) -> T {
+    // A reference to a local is valid for reads, and `T` is copied anyway.
+    unsafe { std::ptr::read_volatile(&value) }
+}
+
 fn timed(work: impl FnOnce()) -> Duration {
     let start = Instant::now();
     work();
@@ -116,13 +124,15 @@ fn nanoseconds(time: Duration, ticks: u32) -> f64 {
     time.as_secs_f64() * 1e9 / f64::from(ticks)
 }
 
+type WholeRun = fn(&Sheet, u16, &mut [u8]) -> Result<Record, Refusal>;
+
 /// Nanoseconds per tick of whole runs inside one process.
 fn per_tick(name: &str, draft: &Draft, ours: Option<&Path>) -> io::Result<()> {
     let sheet = read(draft);
     let mut trace = vec![0; usize::from(LAST_TICK)];
+    let run = hidden(whole_run as WholeRun);
     let time = best(|| {
-        let record = whole_run(black_box(&sheet), LAST_TICK, &mut trace);
-        let _ = black_box((record, &trace));
+        let _ = run(&sheet, LAST_TICK, &mut trace);
     });
     let second = nanoseconds(time, u32::from(LAST_TICK));
     println!("{name}: second {second:.2} ns per tick");
@@ -201,8 +211,9 @@ fn whole_program(name: &str, input: &[u8], options: &Options) -> io::Result<()> 
 
 fn laxity_time(draft: &Draft) {
     let sheet = read(draft);
+    let find = hidden(laxities as fn(&Sheet) -> Vec<i64>);
     let time = best(|| {
-        black_box(laxities(black_box(&sheet)));
+        let _ = find(&sheet);
     });
     let milliseconds = time.as_secs_f64() * 1e3;
     println!("periods 1 and 10000: second finds the laxities in {milliseconds:.3} ms");

@@ -64,11 +64,10 @@ pub fn run_all<T: Send>(
         let mut done = Vec::new();
         loop {
             let index = next.fetch_add(1, Ordering::Relaxed);
-            let Some(input) = inputs.get(index) else {
-                return Ok(done);
-            };
-            let outcome = outcome(programs, input)?;
-            done.push((index, look(&outcome)));
+            match inputs.get(index) {
+                Some(input) => done.push((index, look(&outcome(programs, input)?))),
+                None => return Ok(done),
+            }
         }
     };
     let mut all = thread::scope(|scope| {
