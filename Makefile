@@ -14,7 +14,7 @@ test:
 
 # The comparison alone, after `make test` or `make run`: make compare SEED=7 COUNT=20000
 compare:
-	@bash tests/quietly rt check lts handmade
+	@bash tests/quietly rt check lts one_tick calls
 	@SEED=$(SEED) COUNT=$(COUNT) bash tests/compare
 
 # Speed beside the second simulator, in one run.

@@ -4,7 +4,7 @@ use crate::sheet::{Sheet, Step, Task};
 use crate::{wrong, SIXTEEN};
 
 /// The ceiling of a semaphore that nobody locks.
-pub const NO_CEILING: u8 = 255;
+pub const NO_CEILING: u8 = if wrong::NO_CEILING { 254 } else { 255 };
 
 /// The smallest rank with a lock of each semaphore.
 pub fn ceilings(sheet: &Sheet) -> [u8; SIXTEEN] {

@@ -121,6 +121,17 @@ pub fn with_record(sheet: &[u8], record: &[u8]) -> Vec<u8> {
     input
 }
 
+/// The call program's input: the call's number, its two numbers, the length of
+/// the buffer, the sheet's length, the sheet.
+pub fn with_call(call: u8, numbers: [u16; 2], room: u16, sheet: &[u8]) -> Vec<u8> {
+    let mut input = vec![call];
+    for word in [numbers[0], numbers[1], room, sheet.len() as u16] {
+        input.extend(word.to_be_bytes());
+    }
+    input.extend(sheet);
+    input
+}
+
 /// Case A: two tasks that share a semaphore.
 pub fn case_a(mode: u8) -> Draft {
     Draft::new(

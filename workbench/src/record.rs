@@ -31,7 +31,7 @@ pub struct TaskRecord {
     pub worst: u16,
 }
 
-#[derive(Clone, Copy, Debug, PartialEq, Eq)]
+#[derive(Clone, Copy, Debug, Default, PartialEq, Eq)]
 pub struct Record {
     pub t: u16,
     pub switches: u16,

@@ -1,25 +1,20 @@
-//! What the two programs answer, as text.
+//! What the programs answer, as text.
 
 use std::fmt::Write;
 
-use crate::bounds::{bounds, laxities};
+use crate::bounds::{bounds, ceilings, laxities};
 use crate::record::{Record, IDLE, RECORD_BYTES, STUCK};
 use crate::refusal::Refusal;
 use crate::run::{whole_run, Run};
 use crate::sheet::Sheet;
+use crate::{wrong, SIXTEEN};
+
+/// What every byte of a buffer is before it is lent: no runner byte.
+pub const BUFFER_MARK: u8 = 170;
 
 /// The printing program's whole answer to its input: a horizon, then a sheet.
 pub fn printed(input: &[u8]) -> String {
-    report(input).unwrap_or_else(refused)
-}
-
-/// The tick program's whole answer: the length of a sheet, the sheet, a record.
-pub fn ticked(input: &[u8]) -> String {
-    one_tick(input).unwrap_or_else(refused)
-}
-
-fn refused(refusal: Refusal) -> String {
-    format!("{refusal}\n")
+    report(input).unwrap_or_else(|refusal| format!("{refusal}\n"))
 }
 
 fn report(input: &[u8]) -> Result<String, Refusal> {
@@ -73,21 +68,142 @@ fn write_trace(text: &mut String, trace: &[u8]) {
     text.push('\n');
 }
 
-fn one_tick(input: &[u8]) -> Result<String, Refusal> {
-    let byte = |at: usize| input.get(at).copied().unwrap_or(0);
-    let length = usize::from(u16::from_be_bytes([byte(0), byte(1)]));
-    let end = input.len().min(2 + length);
-    let sheet = Sheet::read(input.get(2..end).unwrap_or(&[]))?;
-    let record: [u8; RECORD_BYTES] = std::array::from_fn(|at| byte(2 + length + at));
-    let mut run = Run::resume(&sheet, Record::from_bytes(&record))?;
-    let runner = run.tick();
-    let mut text = String::new();
-    write_record(&mut text, runner, run.record());
-    Ok(text)
+/// An input as numbers and parts; what is missing is zero.
+struct Input<'a>(&'a [u8]);
+
+impl<'a> Input<'a> {
+    fn byte(&self, at: usize) -> u8 {
+        self.0.get(at).copied().unwrap_or(0)
+    }
+
+    fn word(&self, at: usize) -> u16 {
+        u16::from_be_bytes([self.byte(at), self.byte(at + 1)])
+    }
+
+    /// So many bytes from a place on, or as many of them as there are.
+    fn part(&self, at: usize, length: usize) -> &'a [u8] {
+        let end = self.0.len().min(at + length);
+        self.0.get(at..end).unwrap_or(&[])
+    }
+
+    fn record(&self, at: usize) -> Record {
+        let bytes: [u8; RECORD_BYTES] = std::array::from_fn(|index| self.byte(at + index));
+        Record::from_bytes(&bytes)
+    }
 }
 
-fn write_record(text: &mut String, runner: u8, record: &Record) {
-    line(text, format_args!("runner {runner}"));
+/// The tick program's whole answer: the length of a sheet, the sheet, a
+/// record. It comes twice, for a tick by value and for one in place.
+pub fn ticked(input: &[u8]) -> String {
+    let input = Input(input);
+    let length = usize::from(input.word(0));
+    let record = input.record(2 + length);
+    let (told, after) = one_tick(input.part(2, length), record);
+    let in_place = if wrong::IN_PLACE { record } else { after };
+    let mut text = told.clone();
+    write_record(&mut text, &after);
+    text += "in place\n";
+    text += &told;
+    write_record(&mut text, &in_place);
+    text
+}
+
+/// What one tick tells, its refusal if there is one and the runner, and the
+/// record afterwards.
+fn one_tick(bytes: &[u8], record: Record) -> (String, Record) {
+    let ran = Sheet::read(bytes).and_then(|sheet| {
+        let mut run = Run::resume(&sheet, record)?;
+        Ok((run.tick(), *run.record()))
+    });
+    let back = if wrong::REFUSED_RECORD {
+        Record::default()
+    } else {
+        record
+    };
+    let mut text = String::new();
+    let (runner, after) = or_refused(&mut text, ran, (0, back));
+    line(&mut text, format_args!("runner {runner}"));
+    (text, after)
+}
+
+/// The call program's whole answer: the call's number, two numbers, the length
+/// of a buffer, the length of a sheet, the sheet.
+pub fn called(input: &[u8]) -> String {
+    let input = Input(input);
+    let (call, first) = (input.byte(0), input.word(1));
+    let (room, length) = (usize::from(input.word(5)), usize::from(input.word(7)));
+    let sheet = Sheet::read(input.part(9, length));
+    let mut text = String::new();
+    match call {
+        1 => check(&mut text, sheet),
+        2 => row_of(&mut text, "ceilings", sheet.map(|sheet| ceilings(&sheet))),
+        3 => row_of(&mut text, "bounds", sheet.map(|sheet| bounds(&sheet))),
+        4 => row_of(&mut text, "laxities", sheet.map(|sheet| laxities(&sheet))),
+        5 => run_into(&mut text, sheet, first, room),
+        6 => write_record(&mut text, &Record::start()),
+        _ => line(&mut text, format_args!("no such call")),
+    }
+    text
+}
+
+/// An answer, after a line for its refusal; if refused, `other`.
+fn or_refused<T>(text: &mut String, answer: Result<T, Refusal>, other: T) -> T {
+    answer.unwrap_or_else(|refusal| {
+        line(text, format_args!("{refusal}"));
+        other
+    })
+}
+
+fn check(text: &mut String, sheet: Result<Sheet, Refusal>) {
+    let fields = sheet.map(|sheet| {
+        let mode = u8::from(sheet.preemption_rule);
+        (sheet.tasks.len(), sheet.semaphores, mode)
+    });
+    let (tasks, semaphores, mode) = or_refused(text, fields, (0, 0, 0));
+    line(
+        text,
+        format_args!("tasks {tasks} semaphores {semaphores} mode {mode}"),
+    );
+}
+
+/// Sixteen numbers, zeros behind those that there are.
+fn row_of<N: Into<i64>, R: IntoIterator<Item = N>>(
+    text: &mut String,
+    name: &str,
+    values: Result<R, Refusal>,
+) {
+    let values = values.map(|row| row.into_iter().map(N::into).collect());
+    let values: Vec<i64> = or_refused(text, values, Vec::new());
+    text.push_str(name);
+    for index in 0..SIXTEEN {
+        write_number(text, values.get(index).copied().unwrap_or(0));
+    }
+    text.push('\n');
+}
+
+fn run_into(text: &mut String, sheet: Result<Sheet, Refusal>, horizon: u16, room: usize) {
+    let mut buffer = vec![BUFFER_MARK; room];
+    let ran = sheet.and_then(|sheet| whole_run(&sheet, horizon, &mut buffer));
+    let nothing = if wrong::REFUSED_RUN {
+        Record::start()
+    } else {
+        Record::default()
+    };
+    let record = or_refused(text, ran, nothing);
+    write_record(text, &record);
+    text.push_str("buffer");
+    for byte in buffer {
+        write_number(text, i64::from(byte));
+    }
+    text.push('\n');
+}
+
+fn write_number(text: &mut String, number: i64) {
+    // Writing to a string cannot fail.
+    let _ = write!(text, " {number}");
+}
+
+fn write_record(text: &mut String, record: &Record) {
     line(
         text,
         format_args!(

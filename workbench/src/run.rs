@@ -365,15 +365,26 @@ impl<'a> Run<'a> {
 /// A whole run from the start: one runner per tick goes into the first
 /// `horizon` bytes of the trace. Answers the record at the end.
 pub fn whole_run(sheet: &Sheet, horizon: u16, trace: &mut [u8]) -> Result<Record, Refusal> {
+    let mut ticks = usize::from(horizon);
+    if wrong::ORDER_14_15 && trace.len() < ticks {
+        return Err(Refusal::plain(15));
+    }
     if horizon > LAST_TICK {
         return Err(Refusal::plain(14));
     }
-    let trace = trace
-        .get_mut(..usize::from(horizon))
-        .ok_or(Refusal::plain(15))?;
+    if wrong::SHORT_RUN {
+        ticks = ticks.min(trace.len());
+    }
+    if trace.len() < ticks {
+        return Err(Refusal::plain(15));
+    }
+    let (trace, later) = trace.split_at_mut(ticks);
     let mut run = Run::start(sheet);
     for runner in trace {
         *runner = run.tick();
+    }
+    if wrong::LATER_BYTES {
+        later.fill(0);
     }
     Ok(run.record)
 }

@@ -43,3 +43,17 @@ pub const BOUND_OUTERMOST: bool = cfg!(feature = "wrong-bound-outermost");
 pub const POINT_SHORT: bool = cfg!(feature = "wrong-point-short");
 /// Demand takes time over period rounded down.
 pub const ROUND_DOWN: bool = cfg!(feature = "wrong-round-down");
+/// The ceiling of a semaphore that nobody locks is 254.
+pub const NO_CEILING: bool = cfg!(feature = "wrong-no-ceiling");
+/// A run into a short buffer goes as far as the buffer does.
+pub const SHORT_RUN: bool = cfg!(feature = "wrong-short-run");
+/// The bytes behind the trace are cleared.
+pub const LATER_BYTES: bool = cfg!(feature = "wrong-later-bytes");
+/// The buffer is looked at before the horizon.
+pub const ORDER_14_15: bool = cfg!(feature = "wrong-order-14-15");
+/// A refused run answers the start record.
+pub const REFUSED_RUN: bool = cfg!(feature = "wrong-refused-run");
+/// A refused tick answers a record of zeros.
+pub const REFUSED_RECORD: bool = cfg!(feature = "wrong-refused-record");
+/// The tick in place leaves the record as it was.
+pub const IN_PLACE: bool = cfg!(feature = "wrong-in-place");

@@ -2,12 +2,15 @@
 
 mod common;
 
-use common::{field, resting, second_tick, standing, tick};
+use common::{field, resting, second_tick, standing, tick, written};
 use workbench::draft::{case_a, case_e, lock, run, unlock, with_record, Draft, DraftTask};
 use workbench::record::{Record, TaskRecord, IDLE, STUCK};
 
-const IMPOSSIBLE: &str = "refused 16 task 0 step 0\n";
-const AT_THE_END: &str = "refused 17 task 0 step 0\n";
+/// A refused tick's answer: nothing else, and the record comes back as it came.
+fn turned_away(number: u8, task: u8, record: &Record) -> String {
+    let refusal = format!("refused {number} task {task} step 0\nrunner 0\n");
+    refusal + &written(record)
+}
 
 /// Something done to a record.
 type Change = fn(&mut Record);
@@ -62,10 +65,11 @@ fn missing_bytes_are_zero() {
     // A record of zeros: its last runner is rank 0, and rank 1 runs.
     let answer = second_tick(&with_record(&sheet, &[]));
     assert!(answer.starts_with("runner 1\nt 1 switches 1 last 1\n"));
-    assert_eq!(second_tick(&[]), "refused 1 task 0 step 0\n");
-    assert_eq!(second_tick(&[9]), "refused 1 task 0 step 0\n");
+    let zeros = Record::default();
+    assert_eq!(second_tick(&[]), turned_away(1, 0, &zeros));
+    assert_eq!(second_tick(&[9]), turned_away(1, 0, &zeros));
     let cut = &with_record(&sheet, &[])[..30];
-    assert_eq!(second_tick(cut), "refused 7 task 1 step 0\n");
+    assert_eq!(second_tick(cut), turned_away(7, 1, &zeros));
     // Whatever follows the record is not looked at.
     let mut long = with_record(&sheet, &case_a_at_5().to_bytes());
     long.extend([255; 40]);
@@ -122,7 +126,8 @@ fn number_16_each_reason() {
     for (name, spoil) in reasons {
         let mut record = case_a_at_5();
         spoil(&mut record);
-        assert_eq!(tick(&case_a(0), &record), IMPOSSIBLE, "{name}");
+        let wanted = turned_away(16, 0, &record);
+        assert_eq!(tick(&case_a(0), &record), wanted, "{name}");
     }
 }
 
@@ -146,9 +151,9 @@ fn just_possible() {
 #[test]
 fn number_17_after_16() {
     let mut record = resting(60_000);
-    assert_eq!(tick(&case_a(0), &record), AT_THE_END);
+    assert_eq!(tick(&case_a(0), &record), turned_away(17, 0, &record));
     record.last_runner = 2;
-    assert_eq!(tick(&case_a(0), &record), IMPOSSIBLE);
+    assert_eq!(tick(&case_a(0), &record), turned_away(16, 0, &record));
     record = resting(59_999);
     let answer = tick(&case_a(0), &record);
     assert_eq!(runner(&answer), "runner 255");
@@ -159,7 +164,8 @@ fn number_17_after_16() {
 fn sheet_refusals_before_the_record() {
     let mut draft = case_a(0);
     draft.tail = vec![0];
-    assert_eq!(tick(&draft, &resting(60_001)), "refused 13 task 0 step 0\n");
+    let record = resting(60_001);
+    assert_eq!(tick(&draft, &record), turned_away(13, 0, &record));
 }
 
 /// Rank 0 locks all of 0 to 2 once; the others hold one each while they run.

@@ -1,4 +1,5 @@
-//! The tick program: a sheet and a record in, the record one tick later out.
+//! The tick program: a sheet and a record in, the record one tick later out, by
+//! value and in place.
 
 use std::io::{self, Read, Write};
 

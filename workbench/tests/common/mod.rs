@@ -1,4 +1,4 @@
-//! Runs the two programs as they are shipped, over their standard streams.
+//! Runs the programs as they are shipped, over their standard streams.
 
 #![allow(dead_code)] // Each test file uses its own share of these.
 
@@ -13,9 +13,18 @@ pub fn second(input: &[u8]) -> String {
     output(env!("CARGO_BIN_EXE_second"), input)
 }
 
-/// What the tick program prints.
+/// What the tick program prints of a tick by value; in place it is the same.
 pub fn second_tick(input: &[u8]) -> String {
-    output(env!("CARGO_BIN_EXE_second_tick"), input)
+    let answer = output(env!("CARGO_BIN_EXE_second_tick"), input);
+    let halves: Vec<&str> = answer.split("in place\n").collect();
+    assert_eq!(halves.len(), 2, "{answer}");
+    assert_eq!(halves[0], halves[1]);
+    halves[0].to_string()
+}
+
+/// What the call program prints.
+pub fn second_calls(input: &[u8]) -> String {
+    output(env!("CARGO_BIN_EXE_second_calls"), input)
 }
 
 fn output(program: &str, input: &[u8]) -> String {
@@ -52,6 +61,34 @@ pub fn standing(position: u8, left: u16) -> TaskRecord {
         left,
         ..TaskRecord::default()
     }
+}
+
+/// A record as the programs print it.
+pub fn written(record: &Record) -> String {
+    let mut text = format!(
+        "t {} switches {} last {}\n",
+        record.t, record.switches, record.last_runner
+    );
+    for (rank, task) in record.tasks.iter().enumerate() {
+        let fields = [
+            ("pending", u16::from(task.pending)),
+            ("position", u16::from(task.position)),
+            ("left", task.left),
+            ("release", task.release),
+            ("releases", task.releases),
+            ("done", task.completions),
+            ("missed", task.misses),
+            ("ran", task.ran),
+            ("blocked", task.blocked),
+            ("worst", task.worst),
+        ];
+        text += &rank.to_string();
+        for (name, number) in fields {
+            text += &format!(" {name} {number}");
+        }
+        text += "\n";
+    }
+    text
 }
 
 /// The last line of an answer without its first word.

@@ -16,17 +16,20 @@ pub struct Pair {
     pub second: PathBuf,
 }
 
-/// The programs that take whole runs, and those that take one tick.
+/// The programs that take whole runs, those that take one tick, and those that
+/// take any call.
 pub struct Programs {
     pub run: Pair,
     pub tick: Option<Pair>,
+    pub call: Option<Pair>,
 }
 
 impl Programs {
-    fn pair(&self, kind: Kind) -> &Pair {
+    pub fn pair(&self, kind: Kind) -> Option<&Pair> {
         match kind {
-            Kind::Run => &self.run,
-            Kind::Tick => self.tick.as_ref().expect("tick inputs come with programs"),
+            Kind::Run => Some(&self.run),
+            Kind::Tick => self.tick.as_ref(),
+            Kind::Call => self.call.as_ref(),
         }
     }
 }
@@ -83,7 +86,9 @@ pub fn run_all<T: Send>(
 }
 
 fn outcome(programs: &Programs, input: &Input) -> io::Result<Outcome> {
-    let pair = programs.pair(input.kind);
+    let pair = programs
+        .pair(input.kind)
+        .expect("inputs come with programs");
     Ok(Outcome {
         theirs: answer(&pair.theirs, &input.bytes)?,
         second: answer(&pair.second, &input.bytes)?,

@@ -1,7 +1,8 @@
 //! The inputs, by category.
 
 use workbench::draft::{
-    case_a, case_e, lock, run, unlock, with_horizon, with_record, Draft, DraftTask, RawStep,
+    case_a, case_e, lock, run, unlock, with_call, with_horizon, with_record, Draft, DraftTask,
+    RawStep,
 };
 use workbench::record::{Record, TaskRecord, IDLE, STUCK};
 use workbench::sheet::Sheet;
@@ -15,6 +16,8 @@ pub enum Kind {
     Run,
     /// A sheet and a record, for the tick programs.
     Tick,
+    /// A call and what it takes, for the call programs.
+    Call,
 }
 
 pub struct Input {
@@ -40,7 +43,7 @@ pub struct Category {
     source: Source,
 }
 
-use Kind::{Run, Tick};
+use Kind::{Call, Run, Tick};
 use Source::{Endless, List};
 
 const fn category(name: &'static str, kind: Kind, weight: usize, source: Source) -> Category {
@@ -52,13 +55,13 @@ const fn category(name: &'static str, kind: Kind, weight: usize, source: Source)
     }
 }
 
-pub const CATEGORIES: [Category; 23] = [
+pub const CATEGORIES: [Category; 29] = [
     category("cases of the scope document", Run, 2, List(scope_cases)),
     category("both sides of the limits", Run, 3, List(two_sided)),
     category("horizons", Run, 2, List(horizons)),
     category("longest sheets, longer inputs", Run, 2, List(longest)),
     category("every truncation", Run, 3, List(truncations)),
-    category("every bit flipped", Run, 9, List(bit_flips)),
+    category("every bit flipped", Run, 11, List(bit_flips)),
     category("valid sheets, mode 0", Run, 16, Endless(valid_mode_0)),
     category("valid sheets, mode 1", Run, 16, Endless(valid_mode_1)),
     category("one damage", Run, 12, Endless(one_damage)),
@@ -76,11 +79,22 @@ pub const CATEGORIES: [Category; 23] = [
     category("tick: nudged records", Tick, 6, Endless(nudged)),
     category("tick: damaged sheets", Tick, 2, Endless(damaged_sheets)),
     category("tick: flipped bits", Tick, 4, Endless(flipped)),
+    category("call: made by hand", Call, 3, List(calls_by_hand)),
+    category("call: cut and long inputs", Call, 2, List(call_lengths)),
+    category("call: any on valid sheets", Call, 6, Endless(call_valid)),
+    category(
+        "call: any on damaged sheets",
+        Call,
+        4,
+        Endless(call_damaged),
+    ),
+    category("call: runs, all buffers", Call, 6, Endless(call_run)),
+    category("call: flipped bits", Call, 3, Endless(call_flipped)),
 ];
 
 /// So many inputs of the kinds wanted, the same for the same seed.
-pub fn generate(seed: u64, count: usize, ticks_too: bool) -> Vec<Input> {
-    let wanted = |category: &&(usize, &Category)| ticks_too || category.1.kind == Run;
+pub fn generate(seed: u64, count: usize, wanted: impl Fn(Kind) -> bool) -> Vec<Input> {
+    let wanted = |category: &&(usize, &Category)| wanted(category.1.kind);
     let all: Vec<(usize, &Category)> = CATEGORIES.iter().enumerate().collect();
     let used: Vec<(usize, &Category)> = all.iter().filter(wanted).copied().collect();
     let mut chance = Chance::new(seed);
@@ -621,4 +635,158 @@ fn flipped(chance: &mut Chance, _: usize) -> Vec<u8> {
         input[at] ^= 1 << chance.below(8);
     }
     input
+}
+
+// Any call.
+
+/// The calls that take a sheet.
+const CALLS: [u8; 5] = [1, 2, 3, 4, RUN_INTO];
+/// The call that has a horizon and a buffer.
+const RUN_INTO: u8 = 5;
+/// The call that takes nothing, and numbers that are no call's.
+const OTHERS: [u8; 4] = [6, 0, 7, 255];
+
+/// Horizons with buffers that are too short, just long enough and longer.
+const ROOMS: [(u16, u16); 17] = [
+    (0, 0),
+    (0, 1),
+    (0, 7),
+    (1, 0),
+    (1, 1),
+    (10, 0),
+    (10, 9),
+    (10, 10),
+    (10, 11),
+    (10, 40),
+    (60_000, 59_999),
+    (60_000, 60_000),
+    (60_000, 65_535),
+    (60_001, 60_000),
+    (60_001, 60_001),
+    (60_001, 0),
+    (65_535, 65_535),
+];
+
+fn calls_by_hand(_: &mut Chance) -> Vec<Vec<u8>> {
+    let drafts = [case_a(0), case_a(1), case_b(), case_a3(), case_e()];
+    let mut list = Vec::new();
+    for draft in &drafts {
+        let sheet = draft.to_bytes();
+        let on_it = |call| with_call(call, [10, 0], 12, &sheet);
+        list.extend(CALLS.map(on_it));
+        list.extend(OTHERS.map(on_it));
+    }
+    let sheet = case_a(0).to_bytes();
+    for (horizon, room) in ROOMS {
+        list.push(with_call(RUN_INTO, [horizon, 0], room, &sheet));
+        // A sheet's refusal goes before those of the horizon and the buffer.
+        list.push(with_call(RUN_INTO, [horizon, 0], room, &sheet[..44]));
+    }
+    list
+}
+
+/// The call program's input of any length, and with tails.
+fn call_lengths(chance: &mut Chance) -> Vec<Vec<u8>> {
+    let call = chance.pick(&CALLS);
+    let input = with_call(call, [20, 0], 25, &case_a(0).to_bytes());
+    let mut list: Vec<Vec<u8>> = (0..=input.len())
+        .map(|length| input[..length].to_vec())
+        .collect();
+    for tail in [1, 2, 500] {
+        list.push([&input[..], &vec![255; tail]].concat());
+    }
+    // A length that is not the sheet's.
+    for length in [0, 1, 7, 8, 44, 46, 65_535_u16] {
+        let mut other = input.clone();
+        other[7..9].copy_from_slice(&length.to_be_bytes());
+        list.push(other);
+    }
+    list
+}
+
+/// A valid sheet of any kind.
+fn any_sheet(chance: &mut Chance) -> Draft {
+    match chance.below(6) {
+        0 => sheets::crossing(chance),
+        1 => sheets::level(chance),
+        2 => sheets::starters(chance),
+        3 => sheets::extreme(chance),
+        _ => {
+            let mode = any_mode(chance);
+            sheets::busy(chance, mode)
+        }
+    }
+}
+
+/// A horizon, and a buffer somewhat shorter, as long, or somewhat longer.
+fn any_room(chance: &mut Chance) -> (u16, u16) {
+    if chance.percent(2) {
+        return chance.pick(&ROOMS);
+    }
+    if chance.percent(6) {
+        return (chance.word(60_001, 65_535), chance.word(0, 150));
+    }
+    let horizon = chance.word(0, 150);
+    let room = match chance.below(8) {
+        0 => chance.word(0, horizon),
+        1 => horizon.saturating_sub(1),
+        2..=4 => horizon,
+        _ => horizon + chance.word(1, 60),
+    };
+    (horizon, room)
+}
+
+fn call_on(chance: &mut Chance, call: u8, sheet: &[u8]) -> Vec<u8> {
+    let (horizon, room) = any_room(chance);
+    let other = chance.word(0, 300);
+    with_call(call, [horizon, other], room, sheet)
+}
+
+fn call_valid(chance: &mut Chance, index: usize) -> Vec<u8> {
+    let sheet = any_sheet(chance).to_bytes();
+    call_on(chance, CALLS[index % CALLS.len()], &sheet)
+}
+
+fn call_damaged(chance: &mut Chance, index: usize) -> Vec<u8> {
+    let draft = any_sheet(chance);
+    let sheet = damage::damaged_once(chance, draft, index);
+    call_on(chance, CALLS[index % CALLS.len()], &sheet)
+}
+
+fn call_run(chance: &mut Chance, _: usize) -> Vec<u8> {
+    let sheet = any_sheet(chance).to_bytes();
+    call_on(chance, RUN_INTO, &sheet)
+}
+
+fn call_flipped(chance: &mut Chance, index: usize) -> Vec<u8> {
+    let mut input = if chance.percent(30) {
+        call_damaged(chance, index)
+    } else {
+        call_run(chance, index)
+    };
+    for _ in 0..chance.between(1, 3) {
+        let at = chance.below(input.len());
+        input[at] ^= 1 << chance.below(8);
+    }
+    input
+}
+
+#[cfg(test)]
+mod tests {
+    use super::*;
+
+    /// With as many inputs as are made where nothing is said, every list is
+    /// taken whole.
+    #[test]
+    fn lists_are_whole() {
+        let inputs = generate(1, 6_000, |_| true);
+        assert_eq!(inputs.len(), 6_000);
+        for (index, category) in CATEGORIES.iter().enumerate() {
+            if let List(make) = category.source {
+                let taken = inputs.iter().filter(|input| input.category == index);
+                let all = make(&mut Chance::new(1));
+                assert_eq!(taken.count(), all.len(), "{}", category.name);
+            }
+        }
+    }
 }

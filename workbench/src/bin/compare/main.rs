@@ -16,7 +16,8 @@ use duel::{Pair, Programs};
 use tally::Tally;
 
 const USAGE: &str = "usage: compare --lts PATH --second PATH \
-[--tick PATH --second-tick PATH] [--seed N] [--count N] [--expect-differences]";
+[--tick PATH --second-tick PATH] [--calls PATH --second-calls PATH] \
+[--seed N] [--count N] [--expect-differences]";
 
 struct Options {
     programs: Programs,
@@ -47,8 +48,8 @@ fn main() -> ExitCode {
 fn compare(options: &Options) -> std::io::Result<bool> {
     let seed = options.seed;
     println!("seed {seed}");
-    let with_ticks = options.programs.tick.is_some();
-    let inputs = inputs::generate(seed, options.count, with_ticks);
+    let there = |kind| options.programs.pair(kind).is_some();
+    let inputs = inputs::generate(seed, options.count, there);
     let seen = duel::run_all(&options.programs, &inputs, tally::look)?;
     let tally = Tally::of(&inputs, &seen);
     if !options.expect_differences {
@@ -64,7 +65,9 @@ fn compare(options: &Options) -> std::io::Result<bool> {
 }
 
 fn parse(mut words: impl Iterator<Item = String>) -> Result<Options, String> {
-    let (mut lts, mut second, mut tick, mut second_tick) = (None, None, None, None);
+    let (mut lts, mut second) = (None, None);
+    let (mut tick, mut second_tick) = (None, None);
+    let (mut calls, mut second_calls) = (None, None);
     let (mut seed, mut count, mut expect_differences) = (1, 6_000, false);
     while let Some(word) = words.next() {
         if word == "--expect-differences" {
@@ -77,29 +80,30 @@ fn parse(mut words: impl Iterator<Item = String>) -> Result<Options, String> {
             "--second" => second = Some(PathBuf::from(value)),
             "--tick" => tick = Some(PathBuf::from(value)),
             "--second-tick" => second_tick = Some(PathBuf::from(value)),
+            "--calls" => calls = Some(PathBuf::from(value)),
+            "--second-calls" => second_calls = Some(PathBuf::from(value)),
             "--seed" => seed = number(&value)?,
             "--count" => count = number(&value)?,
             _ => return Err(format!("unknown word {word}")),
         }
     }
-    let run = pair(lts, second).ok_or("--lts and --second are both needed")?;
-    let tick = match (tick, second_tick) {
-        (None, None) => None,
-        (tick, second) => Some(pair(tick, second).ok_or("--tick and --second-tick go together")?),
-    };
+    let run = pair(lts, second)?.ok_or("--lts and --second are both needed")?;
+    let tick = pair(tick, second_tick)?;
+    let call = pair(calls, second_calls)?;
     Ok(Options {
-        programs: Programs { run, tick },
+        programs: Programs { run, tick, call },
         seed,
         count,
         expect_differences,
     })
 }
 
-fn pair(theirs: Option<PathBuf>, second: Option<PathBuf>) -> Option<Pair> {
-    Some(Pair {
-        theirs: theirs?,
-        second: second?,
-    })
+fn pair(theirs: Option<PathBuf>, second: Option<PathBuf>) -> Result<Option<Pair>, String> {
+    match (theirs, second) {
+        (Some(theirs), Some(second)) => Ok(Some(Pair { theirs, second })),
+        (None, None) => Ok(None),
+        _ => Err("programs go in pairs, the second simulator's with the other".to_string()),
+    }
 }
 
 fn number<T: std::str::FromStr>(word: &str) -> Result<T, String> {

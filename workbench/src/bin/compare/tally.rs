@@ -27,7 +27,7 @@ enum Ending {
         later: bool,
     },
     /// Not refused; whether anything was blocked, missed or stuck.
-    Ran {
+    Accepted {
         blocked: bool,
         missed: bool,
         stuck: bool,
@@ -60,7 +60,7 @@ fn ending(answer: &str) -> Ending {
         }
         any
     };
-    Ending::Ran {
+    Ending::Accepted {
         blocked: counts("blocked"),
         missed: counts("missed"),
         stuck: answer.starts_with("runner 254") || answer.contains(" !"),
@@ -73,7 +73,7 @@ pub struct Tally {
     by_category: Vec<(usize, usize)>,
     /// Refused inputs, and those of them at a later task, by number.
     refused: [(usize, usize); REFUSALS + 1],
-    ran: usize,
+    accepted: usize,
     blocked: usize,
     missed: usize,
     stuck: usize,
@@ -101,12 +101,12 @@ impl Tally {
                 *all += 1;
                 *at_later += usize::from(*later);
             }
-            Ending::Ran {
+            Ending::Accepted {
                 blocked,
                 missed,
                 stuck,
             } => {
-                self.ran += 1;
+                self.accepted += 1;
                 self.blocked += usize::from(*blocked);
                 self.missed += usize::from(*missed);
                 self.stuck += usize::from(*stuck);
@@ -130,8 +130,8 @@ impl Tally {
         }
         println!("refused, number:inputs/at later tasks{}", self.refusals());
         println!(
-            "ran {}, with blocking {}, with misses {}, stuck {}",
-            self.ran, self.blocked, self.missed, self.stuck
+            "not refused {}, with blocking {}, with misses {}, stuck {}",
+            self.accepted, self.blocked, self.missed, self.stuck
         );
     }
 

@@ -1,23 +1,24 @@
-// One tick of a state that is handed in: for comparing states that no run from the start reaches.
-// Standard input: a 16-bit length and a sheet of that length, then a state of 293 bytes, all big-endian; what is missing is
-// zero. workbench/README.md has the format, and what is printed.
+// What the test programs share: numbers and states read from bytes, and answers written as lines. workbench/README.md has
+// the formats.
 ghost use Prim.Native.Nat.{_<_, _≤_};
+ghost use lib.ListN.{length};
 use libc::STDOUT_FILENO;
 use rules::Counts;
 use rules::Job;
+use rules::Laxity;
 use rules::Refusal;
 use rules::State;
 use rules::TaskRecord;
 
 // The byte at a place, 0 past the end.
-fn byte_at(s: &[u8], at: usize) -> u8 {
+pub fn byte_at(s: &[u8], at: usize) -> u8 {
     if at < s.len() {
         return s[at];
     }
     0
 }
 
-fn word_at(s: &[u8], at: usize) -> u16
+pub fn word_at(s: &[u8], at: usize) -> u16
     requires { ⌜ at < 100000 ⌝ }
 {
     let high = byte_at(s, at);
@@ -71,7 +72,7 @@ fn record_at(s: &[u8], at: usize) -> TaskRecord
 }
 
 // The state that the bytes from a place on stand for.
-fn state_at(s: &[u8], at: usize) -> State
+pub fn state_at(s: &[u8], at: usize) -> State
     requires { ⌜ at < 70000 ⌝ }
 {
     let t = word_at(s, at);
@@ -93,13 +94,39 @@ fn state_at(s: &[u8], at: usize) -> State
     }
 }
 
-fn print(name: &[u8], n: u64) {
-    io::write_all(STDOUT_FILENO, name);
+// The place that so many bytes behind another one lead to, cut where the bytes end.
+pub fn behind(s: &[u8], from: usize, count: usize) -> usize
+    requires { ⌜ from ≤ length (now s) ⌝ }
+    ensures { λ r. ⌜ (from ≤ r) × (r ≤ length (now (s .entry))) ⌝ }
+{
+    if s.len() - from < count {
+        return s.len();
+    }
+    from + count
+}
+
+pub fn write(text: &[u8]) {
+    io::write_all(STDOUT_FILENO, text);
+}
+
+pub fn print(name: &[u8], n: u64) {
+    write(name);
     io::print_decimal(STDOUT_FILENO, n);
 }
 
-fn end_line() {
-    io::write_all(STDOUT_FILENO, b"\n");
+pub fn end_line() {
+    write(b"\n");
+}
+
+// Nothing where the call was not turned away.
+pub fn print_refusal(x: Refusal) {
+    if x.number == 0 {
+        return;
+    }
+    print(b"refused ", x.number as u64);
+    print(b" task ", x.rank as u64);
+    print(b" step ", x.step as u64);
+    end_line();
 }
 
 fn print_job(j: Job) {
@@ -122,7 +149,7 @@ fn print_counts(c: Counts) {
     print(b" worst ", c.worst as u64);
 }
 
-fn print_state(st: State) {
+pub fn print_state(st: State) {
     print(b"t ", st.t as u64);
     print(b" switches ", st.switches as u64);
     print(b" last ", st.last as u64);
@@ -140,52 +167,24 @@ fn print_state(st: State) {
     }
 }
 
-fn print_refusal(x: Refusal) {
-    print(b"refused ", x.number as u64);
-    print(b" task ", x.rank as u64);
-    print(b" step ", x.step as u64);
+pub fn print_laxity(name: &[u8], x: Laxity) {
+    write(name);
+    if x.below {
+        write(b"-");
+    }
+    print(b"", x.size as u64);
+}
+
+fn wide(x: u8) -> u64 {
+    x as u64
+}
+
+pub fn print_bytes(name: &[u8], bytes: &[u8]) {
+    write(name);
+    let mut i = 0;
+    while i < bytes.len() {
+        print(b" ", wide(bytes[i]));
+        i += 1;
+    }
     end_line();
-}
-
-fn print_tick(sheet: &[u8], st: State) {
-    let a = simulator::tick(sheet, st);
-    let told = a.told;
-    let x = told.refusal;
-    if x.number != 0 {
-        print_refusal(x);
-        return;
-    }
-    print(b"runner ", told.runner as u64);
-    end_line();
-    let next = a.state;
-    print_state(next);
-}
-
-// Where a sheet of a length ends, cut where the input does.
-fn end_of(length: usize, input: usize) -> usize
-    requires { ⌜ 2 ≤ input ⌝ }
-    ensures { λ r. ⌜ (2 ≤ r) × (r ≤ input) ⌝ }
-{
-    if input - 2 < length {
-        return input;
-    }
-    2 + length
-}
-
-// The sheet that the input has, and the state behind it.
-fn answer(input: &[u8]) {
-    let length = word_at(input, 0) as usize;
-    let st = state_at(input, 2 + length);
-    if input.len() < 2 {
-        print_tick(&input[..0], st);
-        return;
-    }
-    let end = end_of(length, input.len());
-    print_tick(&input[2..end], st);
-}
-
-fn main() {
-    let mut input = io::large_buffer();
-    let n = io::read_full(0, &mut input);
-    answer(&input[..n]);
 }

@@ -1,7 +1,8 @@
+-- `print_state` is safe and ends: sixteen records are printed.
 use Prim.Native.Nat.{_-_, _≤_}
 use borrow.Author.Needs.{needs}
-use Rattle.handmade.proofs.print_state.Statement.{statement}
-use Rattle.handmade.proofs.print_state.Tie as tie
+use Rattle.wire.proofs.print_state.Statement.{statement}
+use Rattle.wire.proofs.print_state.Tie as tie
 
 abbrev Inv-loop : tie.InvT-loop
 Inv-loop st i₀ t10 i = i ≤ 16

@@ -1,9 +1,10 @@
+-- `state_at` is safe and ends: sixteen records are read.
 use mathlib.Core.Path.{_≡_}
 use lib.ListN.{length}
 use Prim.Native.Nat.{_-_, _≤_}
 use borrow.Author.Needs.{needs}
-use Rattle.handmade.proofs.state_at.Statement.{statement}
-use Rattle.handmade.proofs.state_at.Tie as tie
+use Rattle.wire.proofs.state_at.Statement.{statement}
+use Rattle.wire.proofs.state_at.Tie as tie
 
 abbrev Inv-loop : tie.InvT-loop
 Inv-loop s at t switches last tasks₀ i₀ tasks i = (i ≤ 16) × (length tasks ≡ 16)
