@@ -1,12 +1,20 @@
 SEED ?= 1
 COUNT ?= 6000
 
-.PHONY: run test compare bench
+.PHONY: run quick test compare bench
 
-# Builds the printing program, proving all of it, and prints case A.
+# Builds the printing program, proving all of it, a line for each crate, and prints case A.
 run:
-	@bash tests/quietly rt check lts
+	@bash tests/proving lts
 	@sh examples/bytes examples/a.hex | target/bin/lts
+
+# The inner loop: proves what has changed, without must-fail edits, and compares 500 inputs.
+quick: COUNT = 500
+quick:
+	@rt fmt --check
+	@bash tests/proving
+	@python3 tests/rows
+	@SEED=$(SEED) COUNT=$(COUNT) bash tests/compare
 
 # Every test: proofs, must-fail edits, programs, and the comparison with the second simulator.
 test:
@@ -14,11 +22,11 @@ test:
 
 # The comparison alone, after `make test` or `make run`: make compare SEED=7 COUNT=20000
 compare:
-	@bash tests/quietly rt check lts one_tick calls
+	@bash tests/proving lts one_tick calls
 	@SEED=$(SEED) COUNT=$(COUNT) bash tests/compare
 
 # Speed beside the second simulator, in one run.
 bench:
-	@bash tests/quietly rt check lts repeat
+	@bash tests/proving lts repeat
 	@cd workbench && cargo build --release --quiet --offline
 	@workbench/target/release/bench --ours target/bin/repeat --lts target/bin/lts
