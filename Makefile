@@ -6,11 +6,13 @@ COUNT ?= 6000
 # Builds the printing program, proving all of it, a line for each crate, and prints case A.
 run:
 	@bash tests/proving lts
+	@bash tests/processor
 	@sh examples/bytes examples/a.hex | target/bin/lts
 
 # The inner loop: proves what has changed, without must-fail edits, and compares 500 inputs.
 quick: COUNT = 500
 quick:
+	@bash tests/processor
 	@rt fmt --check
 	@bash tests/proving
 	@python3 tests/rows
@@ -22,11 +24,13 @@ test:
 
 # The comparison alone, after `make test` or `make run`: make compare SEED=7 COUNT=20000
 compare:
+	@bash tests/processor
 	@bash tests/proving lts one_tick calls
 	@SEED=$(SEED) COUNT=$(COUNT) bash tests/compare
 
 # Speed beside the second simulator, in one run.
 bench:
+	@bash tests/processor
 	@bash tests/proving lts repeat
 	@cd workbench && cargo build --release --quiet --offline
 	@workbench/target/release/bench --ours target/bin/repeat --lts target/bin/lts

@@ -5,10 +5,6 @@
 ghost use Prim.Native.Nat.{_≤_};
 ghost use mathlib.Core.Path.{_≡_};
 ghost use lib.ListN.{length};
-use rules::Counts;
-use rules::Job;
-use rules::State;
-use rules::TaskRecord;
 
 fn check(sheet: &[u8]) {
     let a = simulator::check(sheet);
@@ -80,34 +76,6 @@ fn run(sheet: &[u8], horizon: u16, room: usize)
     run_into(&mut buffer[..room], sheet, horizon);
 }
 
-// The record at the start.
-fn start() -> State {
-    let no_job = Job {
-        pending: false,
-        position: 0,
-        left: 0,
-        release: 0,
-    };
-    let no_counts = Counts {
-        releases: 0,
-        completions: 0,
-        misses: 0,
-        ran: 0,
-        blocked: 0,
-        worst: 0,
-    };
-    let zero = TaskRecord {
-        job: no_job,
-        counts: no_counts,
-    };
-    State {
-        t: 0,
-        switches: 0,
-        last: 255,
-        tasks: [zero; 16],
-    }
-}
-
 fn ask(call: u8, first: u16, room: usize, sheet: &[u8])
     requires { ⌜ room ≤ 65536 ⌝ }
 {
@@ -117,7 +85,7 @@ fn ask(call: u8, first: u16, room: usize, sheet: &[u8])
         3 => bounds(sheet),
         4 => laxities(sheet),
         5 => run(sheet, first, room),
-        6 => wire::print_state(start()),
+        6 => wire::print_state(simulator::start()),
         _ => wire::write(b"no such call\n"),
     }
 }

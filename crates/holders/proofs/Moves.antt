@@ -177,20 +177,23 @@ module _ (bytes : List ℕ) (sheet : Sheet) (e : readSheet bytes ≡ read sheet)
   unfolding holders holder
   holders-released = row-same 16 _ _ (λ s l. smallest-same 16 255 _ _ (λ j m. holds-released bytes sheet e st π j s m))
 
-  -- whoever runs, if he may run
+  -- any runner that may run
   module _ (x : Runner) (may : (i : ℕ) → x ≡ job i → MayRun sheet (afterReleases sheet st) i) where
     abbrev next : List TaskRecord
     next = afterRunner x sheet (st .t) rs
 
-    -- nobody runs: nobody's job changes
-    pub holders-still : ((i : ℕ) → x ≡ job i → ⊥) → holders sheet (afterRunner x sheet (st .t) (afterReleases sheet st)) ≡ holders sheet (afterReleases sheet st)
-    unfolding holders holder holds
-    holders-still n = row-same 16 _ _ (λ s l. smallest-same 16 255 _ _ (λ j m.
-        ap (λ (r : TaskRecord). carries (taskAt sheet j) (r .job) s) (spent-at x sheet (st .t) rs j m)
+    -- who does not run holds what it held
+    waits : (j s : ℕ) → j < 16 → (x ≡ job j → ⊥) → holds sheet next j s ≡ holds sheet rs j s
+    unfolding holds
+    waits j s l n = ap (λ (r : TaskRecord). carries (taskAt sheet j) (r .job) s) (spent-at x sheet (st .t) rs j l)
         ∙ spent-cases (λ r. carries (taskAt sheet j) (r .job) s ≡ carries (taskAt sheet j) (recordAt rs j .job) s) x (st .t) j (taskAt sheet j) (recordAt rs j)
-        (λ z. absurd (n j z))
-        (λ k z u p. refl)
-        (λ z p. refl)))
+        (λ w. absurd (n w))
+        (λ k w u p. refl)
+        (λ w p. refl)
+
+    pub holders-still : ((i : ℕ) → x ≡ job i → ⊥) → holders sheet (afterRunner x sheet (st .t) (afterReleases sheet st)) ≡ holders sheet (afterReleases sheet st)
+    unfolding holders holder
+    holders-still n = row-same 16 _ _ (λ s l. smallest-same 16 255 _ _ (λ j m. waits j s m (n j)))
 
     module _ (i : ℕ) (z : x ≡ job i) where
       abbrev task : Task
@@ -214,12 +217,7 @@ module _ (bytes : List ℕ) (sheet : Sheet) (e : readSheet bytes ≡ read sheet)
           (λ w p. absurd (w z))
 
       stays : (j s : ℕ) → j < 16 → (j ≡ i → ⊥) → holds sheet next j s ≡ holds sheet rs j s
-      unfolding holds
-      stays j s l n = ap (λ (r : TaskRecord). carries (taskAt sheet j) (r .job) s) (spent-at x sheet (st .t) rs j l)
-          ∙ spent-cases (λ r. carries (taskAt sheet j) (r .job) s ≡ carries (taskAt sheet j) (recordAt rs j .job) s) x (st .t) j (taskAt sheet j) (recordAt rs j)
-          (λ w. absurd (n (let same : job j ≡ job i = sym w ∙ z in let y : j ≡ i = cc in y)))
-          (λ k w u p. refl)
-          (λ w p. refl)
+      stays j s l n = waits j s l (λ w. n (let same : job j ≡ job i = sym w ∙ z in cc))
 
       -- the position it comes to, and the steps up to there
       abbrev to : ℕ

@@ -41,23 +41,17 @@ fn job_at(s: &[u8], at: usize) -> Job
     }
 }
 
+// The counts stand in the order of their row.
 fn counts_at(s: &[u8], at: usize) -> Counts
     requires { ⌜ at < 90000 ⌝ }
 {
-    let releases = word_at(s, at);
-    let completions = word_at(s, at + 2);
-    let misses = word_at(s, at + 4);
-    let ran = word_at(s, at + 6);
-    let blocked = word_at(s, at + 8);
-    let worst = word_at(s, at + 10);
-    Counts {
-        releases: releases,
-        completions: completions,
-        misses: misses,
-        ran: ran,
-        blocked: blocked,
-        worst: worst,
+    let mut row: [u16; 6] = [0; 6];
+    let mut k: usize = 0;
+    while k < 6 {
+        row[k] = word_at(s, at + 2 * k);
+        k += 1;
     }
+    record::counts_of(row)
 }
 
 fn record_at(s: &[u8], at: usize) -> TaskRecord
