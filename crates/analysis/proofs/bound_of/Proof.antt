@@ -1,3 +1,4 @@
+-- Over the tasks behind i the longest section so far grows to the bound; those up to i count for nothing.
 use Prim.Native.Nat.{_-_, _≤_, _<_}
 use mathlib.Core.Path.{_≡_}
 use borrow.Author.Needs.{needs}

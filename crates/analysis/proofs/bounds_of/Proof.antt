@@ -1,3 +1,4 @@
+-- Rank by rank the array gets the bounds, which fit 16 bits; behind the last task it stays 0.
 use Prim.Native.Nat.{_-_, _≤_}
 use native.Mathlib.Omega.{arith}
 use borrow.Author.Needs.{needs}

@@ -1,3 +1,4 @@
+-- What is summed and the runs still ahead make C at each turn; at the end nothing is ahead.
 use Prim.Native.Nat.{_+_, _-_, _≤_}
 use mathlib.Core.Path.{_≡_}
 use lib.ListN.{drop}

@@ -1,3 +1,4 @@
+-- Rank by rank the array gets C, which fits 16 bits; past the last task that is 0.
 use Prim.Native.Nat.{_-_, _≤_}
 use native.Mathlib.Omega.{arith}
 use borrow.Author.Needs.{needs}

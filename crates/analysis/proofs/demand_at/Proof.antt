@@ -1,3 +1,4 @@
+-- Rank by rank up to i a demand is added to the bound, and the sum stays at most the raise.
 use Prim.Native.Nat.{_+_, _-_, _*_, _≤_}
 use mathlib.Core.Path.{_≡_}
 use native.Mathlib.Omega.{arith}

@@ -1,3 +1,4 @@
+-- What is summed and what is still ahead make the runs inside; the unlock of u ends them, and so does the last step.
 use Prim.Native.Nat.{_+_, _-_, _≤_}
 use mathlib.Core.Path.{_≡_}
 use lib.ListN.{drop}

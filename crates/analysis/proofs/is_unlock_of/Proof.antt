@@ -1,3 +1,4 @@
+-- An unlock is of u where it names u; no other step is an unlock.
 use Rattle.analysis.proofs.Bounds.{names-it, no-unlock}
 use borrow.Author.Needs.{needs}
 use Rattle.analysis.proofs.is_unlock_of.Statement.{statement}

@@ -1,3 +1,4 @@
+-- Point by point of task k, the largest slack so far; a point is at most task i's period, so that it fits.
 use Prim.Native.Nat.{_-_, _≤_}
 use mathlib.Core.Path.{_≡_}
 use native.Mathlib.Omega.{arith}

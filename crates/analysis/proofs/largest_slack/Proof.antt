@@ -1,3 +1,4 @@
+-- Rank by rank up to i, the largest slack at the points so far; at the end it is the laxity, raised.
 use Prim.Native.Nat.{_+_, _-_, _≤_}
 use mathlib.Core.Path.{_≡_}
 use native.Mathlib.Omega.{arith}

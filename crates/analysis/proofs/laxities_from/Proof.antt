@@ -1,3 +1,4 @@
+-- Rank by rank the array gets the laxities of the rows; behind n it stays zero.
 use Prim.Native.Nat.{_-_, _≤_}
 use native.Mathlib.Omega.{arith}
 use borrow.Author.Needs.{needs}

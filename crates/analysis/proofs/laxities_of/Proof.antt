@@ -1,3 +1,4 @@
+-- The rows are those of the sheet's C, periods and bounds, so the laxities by them are the sheet's.
 use borrow.Author.Needs.{needs}
 use Rattle.analysis.proofs.Laxity.{periods-sound, laxities-of-sheet}
 use Rattle.analysis.proofs.laxities_of.Statement.{statement}

@@ -1,3 +1,4 @@
+-- The largest slack is so near to the raise that its size fits 32 bits; its sign and size are the laxity's.
 use mathlib.Core.Path.{ap, _∙_}
 use borrow.Author.Needs.{needs}
 use Rattle.rules.specs.Answers.{signed}

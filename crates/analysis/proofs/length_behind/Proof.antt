@@ -1,3 +1,4 @@
+-- With a ceiling of at most i the runs inside count; with a greater one they do not.
 use native.Mathlib.Omega.{arith}
 use borrow.Author.Needs.{needs}
 use Rattle.analysis.proofs.Bounds.{low-ceiling, high-ceiling}

@@ -1,3 +1,4 @@
+-- Position by position, the longest of the sections that begin so far; 64 positions are all.
 use Prim.Native.Nat.{_-_, _≤_}
 use mathlib.Core.Path.{_≡_, refl}
 use borrow.Author.Needs.{needs}

@@ -1,3 +1,4 @@
+-- Rank by rank the array gets the entries' periods; past the last that is 0.
 use Prim.Native.Nat.{_-_, _≤_}
 use mathlib.Core.Path.{ap}
 use native.Mathlib.Omega.{arith}

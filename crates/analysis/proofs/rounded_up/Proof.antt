@@ -1,3 +1,4 @@
+-- The quotient rounded up is the rules', and is small enough for a product with C.
 use borrow.Author.Needs.{needs}
 use Rattle.analysis.proofs.Laxity.{rounded}
 use Rattle.analysis.proofs.rounded_up.Statement.{statement}

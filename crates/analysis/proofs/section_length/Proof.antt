@@ -1,3 +1,4 @@
+-- At a lock the length behind it counts; where another step or none stands, no section begins.
 use mathlib.Core.Logic.{⊎-elim}
 use native.Mathlib.Omega.{arith}
 use Rattle.analysis.proofs.Bounds.{lock-below, at-lock, no-section}

@@ -1,3 +1,4 @@
+-- Below the raise the slack is negative, from the raise on it is not, and the size is the distance from it.
 use borrow.Author.Needs.{needs}
 use Rattle.analysis.proofs.Integers.{signed-below, signed-above}
 use Rattle.analysis.proofs.signed_of.Statement.{statement}

@@ -1,3 +1,4 @@
+-- The demand is at most the raise, so that t, raised, less the demand is the slack, raised.
 use mathlib.Core.Path.{refl}
 use borrow.Author.Needs.{needs}
 use Rattle.analysis.proofs.Laxity.{slack-turn}

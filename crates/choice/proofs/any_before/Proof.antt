@@ -1,3 +1,4 @@
+-- The first step of the kind ends the scan; where it comes to the position, none lies before that.
 use Prim.Native.Nat.{_-_, _≤_}
 use mathlib.Core.Path.{_≡_}
 use native.Mathlib.Omega.{arith}

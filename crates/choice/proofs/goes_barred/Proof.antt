@@ -1,3 +1,4 @@
+-- Each return is what rule 3 says of a job that is not free of ceilings.
 use Rattle.choice.proofs.Steps.{scan-whole, goes-no-run, goes-mode, goes-begun, goes-later, goes-fresh}
 use borrow.Author.Needs.{needs}
 use Rattle.choice.proofs.goes_barred.Statement.{statement}

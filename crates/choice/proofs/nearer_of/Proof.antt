@@ -1,3 +1,4 @@
+-- A semaphore that nobody holds, that is the job's own, or whose ceiling is not smaller changes nothing; another is nearer.
 use Rattle.choice.proofs.Ways.{way-nobody, way-own, way-higher, way-nearer}
 use Rattle.choice.proofs.nearer_of.Statement.{statement}
 use Rattle.choice.proofs.nearer_of.Tie as tie

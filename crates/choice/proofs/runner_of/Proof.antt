@@ -1,3 +1,4 @@
+-- None pending is idle; the top job runs where it goes even if barred; else the walk with the holders gives the runner.
 use Rattle.table.proofs.Laws.{lies-from}
 use Rattle.choice.proofs.Walks.{past-rest, top-rank, runner-none, runner-top, runner-walked}
 use borrow.Author.Needs.{needs}

@@ -1,3 +1,4 @@
+-- None pending is idle; else the walk from the top job gives the runner.
 use Rattle.choice.proofs.Walks.{past-rest, top-rank, runner-none, runner-walked}
 use borrow.Author.Needs.{needs}
 use Rattle.choice.proofs.runner_with.Statement.{statement}

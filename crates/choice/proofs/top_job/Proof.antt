@@ -1,3 +1,4 @@
+-- Where a job is pending the loop stops at it; where none is, 255.
 use borrow.Author.Needs.{needs}
 use native.Mathlib.Omega.{arith}
 use Prim.Native.Nat.{ℕ, _≤_, _<_, _-_}

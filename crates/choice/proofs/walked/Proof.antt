@@ -1,3 +1,4 @@
+-- The candidates so far may not go, and the walk from the present one gives the runner; after sixteen one has come round.
 use borrow.Author.Needs.{needs}
 use native.Mathlib.Omega.{arith}
 use Prim.Native.Nat.{_≤_, _<_, _-_}

@@ -1,3 +1,4 @@
+-- Semaphore by semaphore, the nearest so far; after the m-th it is the one in the way.
 use borrow.Author.Needs.{needs}
 use native.Mathlib.Omega.{arith}
 use Prim.Native.Nat.{_≤_, _-_}

@@ -1,3 +1,4 @@
+-- Task by task, a release changes the record and no release leaves it; after the last these are the records after rule 1.
 use Prim.Native.Nat.{ℕ, _≤_, _-_}
 use mathlib.Core.Path.{_≡_, _∙_, ap, sym}
 use mathlib.Core.Logic.{⊎-elim}

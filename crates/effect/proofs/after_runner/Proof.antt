@@ -1,3 +1,4 @@
+-- 254 and 255 leave every record; a job that runs blocks the pending ones of smaller rank and changes its own record.
 use mathlib.Core.Path.{sym, _∙_}
 use lib.ListN.{length-map}
 use denote.Ref.{now}

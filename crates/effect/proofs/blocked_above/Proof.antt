@@ -1,3 +1,4 @@
+-- Rank by rank below the runner's, a pending job is blocked once and another record stays.
 use Prim.Native.Nat.{ℕ, _≤_, _-_}
 use mathlib.Core.Path.{_≡_, _∙_, ap, sym}
 use mathlib.Core.Logic.{⊎-elim}

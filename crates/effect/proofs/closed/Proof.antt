@@ -1,3 +1,4 @@
+-- With the switches counted, the state is rule 7's.
 use borrow.Author.Needs.{needs}
 use Rattle.effect.proofs.Laws.{closed-with}
 use Rattle.effect.proofs.closed.Statement.{statement}

@@ -1,3 +1,4 @@
+-- The ticks of the step that stands at a position are the full length there.
 use Rattle.effect.proofs.Laws.{full-told}
 use borrow.Author.Needs.{needs}
 use Rattle.effect.proofs.full_at.Statement.{statement}

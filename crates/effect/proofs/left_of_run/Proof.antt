@@ -1,3 +1,4 @@
+-- A run that the job stands at has what is left of it; one behind locks has its full length.
 use borrow.Author.Needs.{needs}
 use Rattle.effect.proofs.Laws.{left-kept, left-full}
 use Rattle.effect.proofs.left_of_run.Statement.{statement}

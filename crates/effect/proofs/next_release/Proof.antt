@@ -1,3 +1,4 @@
+-- Before the offset no release lies until it; from it on none lies until a period after the last one.
 use borrow.Author.Needs.{needs}
 use Prim.Native.Nat.{_-_}
 use native.Mathlib.Omega.{arith}

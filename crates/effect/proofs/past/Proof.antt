@@ -1,3 +1,4 @@
+-- A step of the kind is passed at each turn, and there are no more than the entry's steps; another kind ends the loop.
 use Prim.Native.Nat.{_+_, _-_}
 use mathlib.Core.Path.{_≡_, refl}
 use native.Mathlib.Omega.{arith}

@@ -1,3 +1,4 @@
+-- Task by task, none so far has a release before the smallest of their next ones.
 use Prim.Native.Nat.{ℕ, _+_, _-_, _≤_, _<_}
 use native.Mathlib.Omega.{arith}
 use denote.Ref.{now}

@@ -1,3 +1,4 @@
+-- Before the offset there is no release; from it on the remainder tells.
 use borrow.Author.Needs.{needs}
 use Rattle.table.specs.Table.{taskOf}
 use Rattle.effect.proofs.Laws.{releases-early, releases-then}

@@ -1,3 +1,4 @@
+-- The same runner again is no switch, another is one more.
 use borrow.Author.Needs.{needs}
 use Rattle.effect.proofs.Laws.{switch-not, switch-more}
 use Rattle.effect.proofs.switches_after.Statement.{statement}

@@ -1,3 +1,4 @@
+-- After k ticks: the state and the trace are the rules', the holders those of the state, and until `due` no task has a release.
 use Prim.Native.Nat.{ℕ, _≤_, _<_, _-_}
 use mathlib.Core.Path.{_≡_, _∙_, refl, sym, ap}
 use mathlib.Core.Logic.{⊎-elim}

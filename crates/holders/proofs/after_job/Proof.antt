@@ -1,3 +1,4 @@
+-- A pending job has taken the steps before its position; one that is not pending holds nothing.
 use Rattle.holders.proofs.Steps.{job-rests, job-holds}
 use borrow.Author.Needs.{needs}
 use Rattle.holders.proofs.after_job.Statement.{statement}

@@ -1,3 +1,4 @@
+-- The locks passed, then those ahead, give the entries of the whole task; other steps change none.
 use Prim.Native.Nat.{_-_, _≤_}
 use mathlib.Core.Path.{_≡_, refl}
 use mathlib.Core.Logic.{⊎-elim}

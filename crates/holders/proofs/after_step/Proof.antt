@@ -1,3 +1,4 @@
+-- A step without a semaphore leaves the entries; another changes the entry of its semaphore alone.
 use Rattle.holders.proofs.Steps.{step-none, step-entry}
 use borrow.Author.Needs.{needs}
 use Rattle.holders.proofs.after_step.Statement.{statement}

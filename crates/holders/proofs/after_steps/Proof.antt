@@ -1,3 +1,4 @@
+-- The steps passed, then those ahead, give the entries of the whole stretch.
 use Prim.Native.Nat.{_-_}
 use mathlib.Core.Path.{_≡_, refl}
 use native.Mathlib.Omega.{arith}

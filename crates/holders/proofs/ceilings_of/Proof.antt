@@ -1,3 +1,4 @@
+-- Rank by rank, the smallest so far that has a lock of each semaphore; after the last these are the ceilings.
 use Prim.Native.Nat.{_-_, _≤_}
 use mathlib.Core.Path.{_≡_}
 use mathlib.Core.List.{[]}

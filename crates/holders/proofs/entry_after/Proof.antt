@@ -1,3 +1,4 @@
+-- A lock takes what nobody has, an unlock gives back what is its own; another rank's entry stays.
 use Rattle.holders.proofs.Steps.{lock-takes, lock-leaves, unlock-gives, unlock-leaves}
 use borrow.Author.Needs.{needs}
 use Rattle.holders.proofs.entry_after.Statement.{statement}

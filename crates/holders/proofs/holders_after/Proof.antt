@@ -1,3 +1,4 @@
+-- A job still pending has passed the steps up to its position, one that completed those up to the end.
 use Rattle.holders.proofs.Steps.{tick-comes, tick-completes}
 use borrow.Author.Needs.{needs}
 use Rattle.holders.proofs.holders_after.Statement.{statement}

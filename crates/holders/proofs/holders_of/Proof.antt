@@ -1,3 +1,4 @@
+-- Rank by rank, the smallest so far that holds each semaphore; after the last these are the holders.
 use borrow.Author.Needs.{needs}
 use native.Mathlib.Omega.{arith}
 use Prim.Native.Nat.{_≤_, _-_}

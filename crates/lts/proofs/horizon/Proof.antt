@@ -1,3 +1,4 @@
+-- The first two bytes, big-endian, are the horizon and fit 16 bits.
 use borrow.Author.Needs.{needs}
 use native.Mathlib.Omega.{arith}
 use mathlib.Core.Path.{refl}

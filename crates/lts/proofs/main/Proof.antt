@@ -1,3 +1,4 @@
+-- The buffers have the lengths that the calls ask for, and what is written ends within the output's.
 use borrow.Author.Needs.{needs}
 use mathlib.Core.Path.{sym}
 use lib.Seq.{length-take-le}

@@ -1,3 +1,4 @@
+-- Input under two bytes prints refusal 1; longer input prints what its horizon and its sheet print.
 use borrow.Author.Needs.{needs}
 use Prim.Native.Nat.{_-_}
 use mathlib.Core.Path.{_≡_}

@@ -1,3 +1,4 @@
+-- A run that is refused prints its refusal; one that is accepted is short enough for its report to have room.
 use borrow.Author.Needs.{needs}
 use native.Mathlib.Omega.{arith}
 use mathlib.Core.Path.{ap}

@@ -1,3 +1,4 @@
+-- Where less than 1 is left it does not fit; else the full length decides.
 use native.Mathlib.Omega.{arith}
 use Rattle.possible.proofs.Fits.{none-left, some-left}
 use Rattle.possible.proofs.from_one_to.Statement.{statement}

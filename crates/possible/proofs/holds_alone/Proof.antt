@@ -1,3 +1,4 @@
+-- A job that is not pending holds nothing; of a pending one the entries of its steps must agree with the holders.
 use Rattle.possible.proofs.Holding.{rests-alone, stands-alone}
 use borrow.Author.Needs.{needs}
 use Rattle.possible.proofs.holds_alone.Statement.{statement}

@@ -1,3 +1,4 @@
+-- A job that is not pending fits where its place is zero; a pending one where it was released before t and stands well.
 use native.Mathlib.Omega.{arith}
 use Rattle.possible.proofs.Fits.{job-rests, job-late, job-stands}
 use borrow.Author.Needs.{needs}

@@ -1,3 +1,4 @@
+-- The first rank that is not the holder of all that it holds ends the loop; where there is none, nothing is held by two.
 use native.Mathlib.Omega.{arith}
 use Prim.Native.Nat.{ℕ, _≤_, _<_, _-_}
 use mathlib.Core.Path.{_≡_}

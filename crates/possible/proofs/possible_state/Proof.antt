@@ -1,3 +1,4 @@
+-- The first test that fails makes the state impossible; where all before it hold, the last one decides.
 use native.Mathlib.Omega.{arith}
 use Rattle.possible.proofs.Fits.{late, many-switches, runner-off, records-off, else-single}
 use borrow.Author.Needs.{needs}

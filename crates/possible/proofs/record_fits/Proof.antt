@@ -1,3 +1,4 @@
+-- Counts or a job that do not fit end the test; below n that is all, and from n on the record must be zero.
 use Rattle.possible.proofs.Fits.{counts-off, job-off, inside-fits, past-zero}
 use Rattle.table.proofs.Laws.{lies-from}
 use borrow.Author.Needs.{needs}

@@ -1,3 +1,4 @@
+-- The first record that does not fit ends the loop; where there is none, the sixteen fit.
 use native.Mathlib.Omega.{arith}
 use Prim.Native.Nat.{ℕ, _≤_, _<_, _-_}
 use mathlib.Core.Path.{_≡_}

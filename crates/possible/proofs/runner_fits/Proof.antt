@@ -1,3 +1,4 @@
+-- A rank below n and 254 fit; of the other bytes only 255 does.
 use Rattle.possible.proofs.Fits.{rank-fits, stuck-fits, else-idle}
 use Rattle.possible.proofs.runner_fits.Statement.{statement}
 use Rattle.possible.proofs.runner_fits.Tie as tie

@@ -1,3 +1,4 @@
+-- A semaphore that the job does not hold asks nothing; another must have the same holder.
 use Rattle.possible.proofs.Holding.{holder-none, holder-one}
 use Rattle.possible.proofs.same_holder.Statement.{statement}
 use Rattle.possible.proofs.same_holder.Tie as tie

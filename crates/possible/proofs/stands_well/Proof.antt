@@ -1,3 +1,4 @@
+-- At a run from 1 to its length is left, at a lock 0; at an unlock or at the end no job stands well.
 use Rattle.possible.proofs.Fits.{stands-run, stands-lock, stands-not}
 use borrow.Author.Needs.{needs}
 use Rattle.possible.proofs.stands_well.Statement.{statement}

@@ -1,3 +1,4 @@
+-- A position or ticks left other than 0 end the test; else the release tick decides.
 use Rattle.record.proofs.Laws.{placed, ticks-left, else-released}
 use Rattle.record.proofs.zero_place.Statement.{statement}
 use Rattle.record.proofs.zero_place.Tie as tie

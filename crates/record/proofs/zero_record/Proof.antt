@@ -1,3 +1,4 @@
+-- A pending job or a place that is not zero end the test; else the counts decide, each at most 0.
 use Rattle.record.proofs.Laws.{pending-not-zero, place-not-zero, else-counts}
 use borrow.Author.Needs.{needs}
 use Rattle.record.proofs.zero_record.Statement.{statement}

@@ -1,3 +1,4 @@
+-- Each of at most 65,535 runs adds at most 65,535 switches, so that the sum fits.
 use Prim.Native.Nat.{_*_, _-_, _≤_}
 use mathlib.Core.Path.{_≡_, refl, _∙_}
 use native.Mathlib.Omega.{arith}

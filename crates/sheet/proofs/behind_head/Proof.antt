@@ -1,3 +1,4 @@
+-- A task's head has the length that the rules say, and the place behind it fits 16 bits.
 use mathlib.Core.Path.{refl}
 use native.Mathlib.Omega.{arith}
 use Rattle.rules.specs.Reading.{headLength}

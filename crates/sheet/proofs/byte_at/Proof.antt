@@ -1,3 +1,4 @@
+-- The byte read is the rules' byte at that place.
 use mathlib.Core.Path.{refl}
 use borrow.Author.Needs.{needs}
 use Rattle.rules.specs.Reading.{byte}

@@ -1,3 +1,4 @@
+-- A head that was read gives the zero refusal, another answer its own.
 use mathlib.Core.Path.{ap, sym, _∙_}
 use borrow.Author.Needs.{needs}
 use Rattle.rules.specs.Answers.{why}

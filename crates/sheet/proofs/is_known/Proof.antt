@@ -1,3 +1,4 @@
+-- A run is known by its length; no kind but 1 to 3 is known; a lock or an unlock is known by its semaphore.
 use borrow.Author.Needs.{needs}
 use Rattle.sheet.proofs.Tests.{known-run, known-none, known-below}
 use Rattle.sheet.proofs.is_known.Statement.{statement}

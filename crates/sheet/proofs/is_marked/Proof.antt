@@ -1,3 +1,4 @@
+-- The first byte that differs from the mark's ends the test; else the third decides.
 use borrow.Author.Needs.{needs}
 use Rattle.sheet.proofs.Heads.{mark-1, mark-2, mark-3}
 use Rattle.sheet.proofs.is_marked.Statement.{statement}

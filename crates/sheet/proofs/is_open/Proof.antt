@@ -1,3 +1,4 @@
+-- From the newest section down, the first that locks x ends the loop; where there is none, none is open.
 use Prim.Native.Nat.{_≤_}
 use mathlib.Core.Path.{_≡_, refl}
 use native.Mathlib.Omega.{arith}

@@ -1,3 +1,4 @@
+-- 1 to 6 in turn: each return is the rules' answer where the tests before it are passed.
 use borrow.Author.Needs.{needs}
 use Rattle.sheet.proofs.Heads.{head-1, head-2, head-3, head-4, head-5, head-6, head-good}
 use Rattle.sheet.proofs.read_head.Statement.{statement}

@@ -1,3 +1,4 @@
+-- A head that is turned away turns the sheet away; the tasks of another are read behind it.
 use borrow.Author.Needs.{needs}
 use Rattle.sheet.proofs.Sheets.{head-away, head-begun}
 use Rattle.sheet.proofs.read_sheet.Statement.{statement}

@@ -1,3 +1,4 @@
+-- 11, then 12; a step that passes both is the rules', and the next one stands three bytes on.
 use borrow.Author.Needs.{needs}
 use Rattle.sheet.proofs.Steps.{step-11, step-12, step-placed}
 use Rattle.sheet.proofs.read_step.Statement.{statement}

@@ -1,3 +1,4 @@
+-- The steps so far are read and leave the nest so; the first one refused ends it, and sections open at the end are 12.
 use Prim.Native.Nat.{_-_}
 use native.Mathlib.Omega.{arith}
 use borrow.Author.Needs.{needs}

@@ -1,3 +1,4 @@
+-- A head that is refused refuses the task; the steps of another lie in the bytes and make the whole task.
 use borrow.Author.Needs.{needs}
 use Rattle.sheet.proofs.Tasks.{head-refused, start-here, steps-lie, task-whole}
 use Rattle.sheet.proofs.read_task.Statement.{statement}

@@ -1,3 +1,4 @@
+-- 7, 8, 9, 10 and 7 again in turn: each return is the rules' answer where the tests before it are passed.
 use borrow.Author.Needs.{needs}
 use Rattle.sheet.proofs.Tasks.{period-inside, offset-inside, count-inside, task-7, task-8, task-9, task-10, steps-7, task-good}
 use Rattle.sheet.proofs.read_task_head.Statement.{statement}

@@ -1,3 +1,4 @@
+-- The tasks so far are read; the first one refused turns the sheet away, and bytes behind the last are 13.
 use Prim.Native.Nat.{_-_}
 use native.Mathlib.Omega.{arith}
 use borrow.Author.Needs.{needs}

@@ -1,3 +1,4 @@
+-- The refusal beside a table that is zero.
 use mathlib.Core.Path.{ap}
 use mathlib.Core.List.{List}
 use borrow.Author.Needs.{needs}

@@ -1,3 +1,4 @@
+-- A number below the low end is outside; else the high end decides.
 use Rattle.sheet.proofs.Tests.{within-below, within-above}
 use Rattle.sheet.proofs.within.Statement.{statement}
 use Rattle.sheet.proofs.within.Tie as tie

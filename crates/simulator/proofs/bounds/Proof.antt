@@ -1,3 +1,4 @@
+-- A refused sheet answers zeros; of another the table and the ceilings are the sheet's, and so are the bounds.
 use Rattle.simulator.proofs.Laws.{no-bounds, all-bounds}
 use borrow.Author.Needs.{needs}
 use Rattle.simulator.proofs.bounds.Statement.{statement}

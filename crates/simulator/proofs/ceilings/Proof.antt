@@ -1,3 +1,4 @@
+-- A refused sheet answers zeros; of another the table is the sheet's, and so are the ceilings.
 use Rattle.simulator.proofs.Laws.{no-ceilings, all-ceilings}
 use borrow.Author.Needs.{needs}
 use Rattle.simulator.proofs.ceilings.Statement.{statement}

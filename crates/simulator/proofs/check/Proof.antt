@@ -1,3 +1,4 @@
+-- The table has the numbers of the sheet, and is zero where it is refused.
 use Rattle.simulator.proofs.Laws.{checked}
 use borrow.Author.Needs.{needs}
 use Rattle.simulator.proofs.check.Statement.{statement}

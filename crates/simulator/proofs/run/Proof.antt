@@ -1,3 +1,4 @@
+-- A run tests 14, then 15, and turned away it leaves the buffer; then the engine's run is the rules'.
 use mathlib.Core.Path.{ap, _∙_}
 use Rattle.simulator.specs.Refused.{notRun}
 use Rattle.simulator.proofs.Ticks.{run-away, run-far, run-short, run-made, run-wrote}

@@ -1,3 +1,4 @@
+-- Before n the array has the entry; from n on it is the zero entry.
 use Rattle.table.proofs.Laws.{entry-in, entry-out}
 use borrow.Author.Needs.{needs}
 use Rattle.table.proofs.entry_at.Statement.{statement}

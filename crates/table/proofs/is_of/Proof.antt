@@ -1,3 +1,4 @@
+-- A step is of a kind where their numbers are equal.
 use Rattle.table.proofs.Steps.{of-kind}
 use borrow.Author.Needs.{needs}
 use Rattle.table.proofs.is_of.Statement.{statement}

@@ -1,3 +1,4 @@
+-- Past the count no step stands; else the byte at its place tells the kind, and the word behind it the value.
 use mathlib.Core.Path.{refl}
 use native.Mathlib.Omega.{arith}
 use Rattle.rules.specs.Reading.{byte}

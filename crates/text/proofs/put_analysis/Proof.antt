@@ -1,3 +1,4 @@
+-- The bound, then the laxity with its word, in their room.
 use mathlib.Core.Path.{refl}
 use borrow.Author.Needs.{needs}
 use native.Mathlib.Omega.{arith}

@@ -1,3 +1,4 @@
+-- One byte stands at the cursor, and the next is behind it.
 use borrow.Author.Needs.{needs}
 use Rattle.text.proofs.Put.{put-one}
 use Rattle.text.proofs.put_byte.Statement.{statement}

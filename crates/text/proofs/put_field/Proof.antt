@@ -1,3 +1,4 @@
+-- The word, then the number behind it, in their room.
 use borrow.Author.Needs.{needs}
 use native.Mathlib.Omega.{arith}
 use Rattle.text.specs.Text.{numbered}

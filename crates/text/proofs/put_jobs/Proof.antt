@@ -1,3 +1,4 @@
+-- Three fields, one behind another, in their room.
 use mathlib.Core.Path.{refl}
 use borrow.Author.Needs.{needs}
 use native.Mathlib.Omega.{arith}

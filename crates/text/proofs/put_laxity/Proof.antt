@@ -1,3 +1,4 @@
+-- A negative laxity has a minus before its size, another the size alone.
 use borrow.Author.Needs.{needs}
 use native.Mathlib.Omega.{arith}
 use Rattle.text.proofs.Put.{laxity-below, laxity-not}

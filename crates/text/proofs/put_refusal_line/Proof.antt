@@ -1,3 +1,4 @@
+-- Three fields and a line end, one behind another.
 use native.Mathlib.Omega.{arith}
 use mathlib.Core.Path.{refl}
 use borrow.Author.Needs.{needs}

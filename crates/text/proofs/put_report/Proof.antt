@@ -1,3 +1,4 @@
+-- The head line, the task lines and the trace line, one behind another; each has its room.
 use native.Mathlib.Omega.{arith}
 use borrow.Author.Needs.{needs}
 use Rattle.text.specs.Text.{report}

@@ -1,3 +1,4 @@
+-- Behind the space 255 is a dash, 254 an exclamation mark, and another byte its number, of three digits at most.
 use borrow.Author.Needs.{needs}
 use native.Mathlib.Omega.{arith}
 use Rattle.text.proofs.Decimal.{decimal-few}

@@ -1,3 +1,4 @@
+-- The rank, its three groups of fields and a line end, one behind another, in their room.
 use borrow.Author.Needs.{needs}
 use native.Mathlib.Omega.{arith}
 use Rattle.text.specs.Text.{taskLine}
