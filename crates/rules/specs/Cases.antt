@@ -52,29 +52,29 @@ abbrev pub Holds : Case → Type 0
 Holds c = HoldsFor c (readSheet (c .sheet))
 
 -- The bytes of a sheet whose numbers are below 256: its head, a task's head, a step.
-abbrev pub head : ℕ → ℕ → ℕ → List ℕ
-head n m mode = 0x4C ∷ 0x54 ∷ 0x53 ∷ 0 ∷ 1 ∷ n ∷ m ∷ mode ∷ []
+abbrev pub headBytes : ℕ → ℕ → ℕ → List ℕ
+headBytes n m mode = 0x4C ∷ 0x54 ∷ 0x53 ∷ 0 ∷ 1 ∷ n ∷ m ∷ mode ∷ []
 
-abbrev pub task : ℕ → ℕ → ℕ → List ℕ
-task period offset count = 0 ∷ period ∷ 0 ∷ offset ∷ count ∷ []
+abbrev pub taskBytes : ℕ → ℕ → ℕ → List ℕ
+taskBytes period offset count = 0 ∷ period ∷ 0 ∷ offset ∷ count ∷ []
 
-abbrev pub runs : ℕ → List ℕ
-runs n = 1 ∷ 0 ∷ n ∷ []
+abbrev pub runBytes : ℕ → List ℕ
+runBytes n = 1 ∷ 0 ∷ n ∷ []
 
-abbrev pub locks : ℕ → List ℕ
-locks s = 2 ∷ 0 ∷ s ∷ []
+abbrev pub lockBytes : ℕ → List ℕ
+lockBytes s = 2 ∷ 0 ∷ s ∷ []
 
-abbrev pub unlocks : ℕ → List ℕ
-unlocks s = 3 ∷ 0 ∷ s ∷ []
+abbrev pub unlockBytes : ℕ → List ℕ
+unlockBytes s = 3 ∷ 0 ∷ s ∷ []
 
 abbrev pub tasksA : List ℕ
 tasksA =
-    task 10 2 4 ++ runs 1 ++ locks 0 ++ runs 1 ++ unlocks 0
-    ++ task 20 0 5 ++ runs 1 ++ locks 0 ++ runs 3 ++ unlocks 0 ++ runs 1
+    taskBytes 10 2 4 ++ runBytes 1 ++ lockBytes 0 ++ runBytes 1 ++ unlockBytes 0
+    ++ taskBytes 20 0 5 ++ runBytes 1 ++ lockBytes 0 ++ runBytes 3 ++ unlockBytes 0 ++ runBytes 1
 
 abbrev pub A : Case
 A = record {
-  sheet = head 2 1 0 ++ tasksA;
+  sheet = headBytes 2 1 0 ++ tasksA;
   from = start;
   ticks = 10;
   outcomes =
@@ -91,7 +91,7 @@ A = record {
 -- A in mode 1
 abbrev pub A2 : Case
 A2 = record {
-  sheet = head 2 1 1 ++ tasksA;
+  sheet = headBytes 2 1 1 ++ tasksA;
   from = start;
   ticks = 10;
   outcomes =
@@ -104,7 +104,7 @@ A2 = record {
 -- A with m 2 and a rank 2
 abbrev pub A3 : Case
 A3 = record {
-  sheet = head 3 2 0 ++ tasksA ++ task 20 0 3 ++ locks 1 ++ runs 2 ++ unlocks 1;
+  sheet = headBytes 3 2 0 ++ tasksA ++ taskBytes 20 0 3 ++ lockBytes 1 ++ runBytes 2 ++ unlockBytes 1;
   from = start;
   ticks = 10;
   outcomes =
@@ -119,10 +119,10 @@ A3 = record {
 abbrev pub B : Case
 B = record {
   sheet =
-      head 4 1 0 ++ task 10 0 1 ++ runs 4
-      ++ task 15 0 4 ++ runs 2 ++ locks 0 ++ runs 2 ++ unlocks 0
-      ++ task 30 0 4 ++ runs 2 ++ locks 0 ++ runs 2 ++ unlocks 0
-      ++ task 100 0 4 ++ runs 6 ++ locks 0 ++ runs 4 ++ unlocks 0;
+      headBytes 4 1 0 ++ taskBytes 10 0 1 ++ runBytes 4
+      ++ taskBytes 15 0 4 ++ runBytes 2 ++ lockBytes 0 ++ runBytes 2 ++ unlockBytes 0
+      ++ taskBytes 30 0 4 ++ runBytes 2 ++ lockBytes 0 ++ runBytes 2 ++ unlockBytes 0
+      ++ taskBytes 100 0 4 ++ runBytes 6 ++ lockBytes 0 ++ runBytes 4 ++ unlockBytes 0;
   from = start;
   ticks = 0;
   outcomes =
@@ -134,7 +134,7 @@ B = record {
 -- one task that overruns its period, and one that completes at its end
 abbrev pub D : Case
 D = record {
-  sheet = head 1 0 0 ++ task 2 0 1 ++ runs 3;
+  sheet = headBytes 1 0 0 ++ taskBytes 2 0 1 ++ runBytes 3;
   from = start;
   ticks = 5;
   outcomes =
@@ -145,7 +145,7 @@ D = record {
 
 abbrev pub D2 : Case
 D2 = record {
-  sheet = head 1 0 0 ++ task 3 0 1 ++ runs 3;
+  sheet = headBytes 1 0 0 ++ taskBytes 3 0 1 ++ runBytes 3;
   from = start;
   ticks = 6;
   outcomes =
@@ -163,9 +163,9 @@ atSecondLock = record {
 abbrev pub E : Case
 E = record {
   sheet =
-      head 2 2 0
-      ++ task 20 0 6 ++ locks 0 ++ runs 1 ++ locks 1 ++ runs 1 ++ unlocks 1 ++ unlocks 0
-      ++ task 20 0 6 ++ locks 1 ++ runs 1 ++ locks 0 ++ runs 1 ++ unlocks 0 ++ unlocks 1;
+      headBytes 2 2 0
+      ++ taskBytes 20 0 6 ++ lockBytes 0 ++ runBytes 1 ++ lockBytes 1 ++ runBytes 1 ++ unlockBytes 1 ++ unlockBytes 0
+      ++ taskBytes 20 0 6 ++ lockBytes 1 ++ runBytes 1 ++ lockBytes 0 ++ runBytes 1 ++ unlockBytes 0 ++ unlockBytes 1;
   from = record { t = 2; switches = 2; last = 1; tasks = atSecondLock ∷ atSecondLock ∷ replicate 14 blank };
   ticks = 1;
   outcomes =
@@ -176,7 +176,7 @@ E = record {
 -- A with horizon 0
 abbrev pub F : Case
 F = record {
-  sheet = head 2 1 0 ++ tasksA;
+  sheet = headBytes 2 1 0 ++ tasksA;
   from = start;
   ticks = 0;
   outcomes =

@@ -10,7 +10,7 @@ use borrow.Author.Tests.{eqb-true}
 use Rattle.rules.specs.Words.{_=?_, any}
 use Rattle.rules.specs.Sheet.{Task, Sheet, run, lock, unlock, taskAt, isLockOf}
 use Rattle.rules.specs.Choice.{locks}
-use Rattle.rules.specs.Cases.{head, tasksA, A, A2, A3}
+use Rattle.rules.specs.Cases.{headBytes, tasksA, A, A2, A3}
 use Rattle.rules.specs.declared.TaskRecord.{TaskRecord}
 use Rattle.rules.proofs.Laws.{true-false, or-cases}
 use Rattle.rules.proofs.Open.{rules}
@@ -38,7 +38,7 @@ abbrev alone : Sheet
 alone = record { mode = 0; semaphores = 1; tasks = task0 ∷ [] }
 
 abbrev bytesAlone : List ℕ
-bytesAlone = head 1 1 0 ++ take 17 tasksA
+bytesAlone = headBytes 1 1 0 ++ take 17 tasksA
 
 pub readsA : Accepted (A .sheet) (sheetA 0)
 unfolding rules
