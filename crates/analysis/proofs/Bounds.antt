@@ -13,7 +13,7 @@ use lib.Seq.{drop-drop}
 use Rattle.rules.specs.Words.{if_then_else_, _<?_, _≤?_, _=?_, row, largest}
 use Rattle.rules.specs.Sheet.{Step, run, lock, unlock, Task, Sheet, taskAt, isUnlock}
 use Rattle.rules.specs.Choice.{ceiling}
-use Rattle.rules.specs.Bounds.{runs, inside, sectionLength, bound, cost}
+use Rattle.rules.specs.Bounds.{runs, inside, sectionLength, countedSection, bound, cost}
 use Rattle.rules.specs.Answers.{byRank}
 use Rattle.rules.specs.Laws.{All, StepLimits, Limits}
 use Rattle.rules.proofs.Laws.{below, row-at, largest-same, all-drop}
@@ -252,11 +252,11 @@ module _ (bytes : List ℕ) (table : Table) (τ : Tabled bytes table) (i : ℕ) 
     bound-turn best v r eb ev er = largest-turn (longestOf sheet i) j best v r eb (ev ∙ longest-is) er
 
   pub bound-end : (j best : ℕ) → j ≤ 16 → 16 ≤ j → best ≡ largest j (longestOf sheet i) → best ≡ bound sheet i
-  unfolding bound longestOf
+  unfolding bound countedSection longestOf
   bound-end j best l m eb = largest-end (longestOf sheet i) 16 j best l m eb
 
   bound-limit : bound sheet i ≤ 64000
-  unfolding bound
+  unfolding bound countedSection
   bound-limit = largest-le 16 _ 64000 (λ j. largest-le 64 _ 64000 (λ k. go j k (i <? j)))
     where
       go : (j k : ℕ) (b : Bool) → (if b then sectionLength (λ s. ceiling sheet s ≤? i) (drop k (taskAt sheet j .steps)) else 0) ≤ 64000

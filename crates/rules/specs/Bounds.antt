@@ -31,11 +31,15 @@ sectionLength test (run n ∷ steps) = 0
 sectionLength test (lock s ∷ steps) = if test s then runs (inside s steps) else 0
 sectionLength test (unlock s ∷ steps) = 0
 
+-- The section of task j that begins at step k, by its length, where the bound of task i counts it: task j is of greater rank
+-- and the semaphore has a ceiling of at most i. 0 where the bound does not count it, or where no section begins.
+unfoldable pub countedSection : Sheet → (i j k : ℕ) → ℕ
+countedSection sheet i j k = if i <? j then sectionLength (λ s. ceiling sheet s ≤? i) (drop k (taskAt sheet j .steps)) else 0
+
 -- The bound B of task i is the largest length of a section of a task of greater rank
 -- whose semaphore has a ceiling of at most i; 0 if none. (A task has at most 64 steps.)
 unfoldable pub bound : Sheet → (i : ℕ) → ℕ
-bound sheet i = largest 16 λ j. largest 64 λ k.
-    if i <? j then sectionLength (λ s. ceiling sheet s ≤? i) (drop k (taskAt sheet j .steps)) else 0
+bound sheet i = largest 16 λ j. largest 64 λ k. countedSection sheet i j k
 
 -- C is the sum of a task's runs.
 unfoldable pub cost : Task → ℕ

@@ -72,7 +72,7 @@ pub record TaskHead : Type 0 where
 unfoldable pub headLength : Head → ℕ
 headLength head = 5
 
--- The longest sheet has sixteen tasks, of 64 steps each.
+-- The longest sheet whose tasks have heads of that length has sixteen tasks, of 64 steps each.
 unfoldable pub longestTask : Head → ℕ
 longestTask head = headLength head + 3 * 64
 

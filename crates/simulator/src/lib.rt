@@ -1,5 +1,6 @@
 // THE PUBLIC FACE: every call, for any input, with no `requires`. The contract of each is one definition of
-// crates/rules/specs/Contracts.antt, which the theorems cite too; a refused call gives its number, rank and step, and leaves what was lent as it was.
+// crates/rules/specs/Contracts.antt, which the theorems cite too; a refused call gives its number, rank and step, and leaves
+// what was lent as it was.
 ghost use mathlib.Core.Path.{_≡_};
 ghost use Rattle.rules.specs.Reading.{refusal};
 ghost use Rattle.simulator.specs.Refused.{notTicked, notRun};

@@ -11,7 +11,7 @@ use borrow.Author.Tests.{eq-eqb, lt-leb}
 use Rattle.rules.specs.Words.{if_then_else_, _<?_, _≤?_, any}
 use Rattle.rules.specs.Sheet.{Step, run, lock, unlock, Task, Sheet, taskAt, isLockOf}
 use Rattle.rules.specs.Choice.{locks, ceiling}
-use Rattle.rules.specs.Bounds.{runs, inside, sectionLength, bound, cost, roundedUp, demand, slack, largestOf, laxity}
+use Rattle.rules.specs.Bounds.{runs, inside, sectionLength, countedSection, bound, cost, roundedUp, demand, slack, largestOf, laxity}
 use Rattle.rules.proofs.Laws.{below, true-false, any-drop, largest-same, total-same}
 use Rattle.theorems.specs.Demand3.{OfAnalysis}
 use Rattle.theorems.proofs.Demand3.{Twin, flip, ceiling-same, ceiling-high, ceiling-locks, twin}
@@ -55,7 +55,7 @@ module _ {k : ℕ} {a b : Sheet} (τ : Twin k a b) (i : ℕ) (l : i < k) where
       (below j k)
 
   bound-same : bound a i ≡ bound b i
-  unfolding bound
+  unfolding bound countedSection
   bound-same = largest-same 16 _ _ (λ j. largest-same 64 _ _ (λ n. ap (λ (x : ℕ). if i <? j then x else 0) (section-both j n)))
 
   slack-same : (t : ℕ) → slack a i t ≡ slack b i t

@@ -21,7 +21,8 @@ use Rattle.rules.specs.declared.Ran.{Ran}
 use Rattle.theorems.specs.Refusals.{Refused, Numbered}
 
 -- A public call: what goes in; what comes out, with lent memory as it is afterwards; what its contract permits, which is the
--- definition that the function itself is proved against; and, for refused calls, the refusal in an outcome and the outcome that has nothing but a refusal.
+-- definition that the function itself is proved against; and, for refused calls, the refusal in an outcome and the outcome
+-- that has nothing but a refusal.
 pub record Call : Type 1 where
   pub Input : Type 0
   pub Outcome : Type 0

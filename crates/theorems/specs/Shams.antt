@@ -34,7 +34,7 @@ RefusesAlways c f = (input : c .Input) → Refused (c .refusal (f input))
 abbrev pub AnswersAlways : (c : Call) → c .Outcome → Function c → Type 0
 AnswersAlways c fixed f = (input : c .Input) → NotRefused (c .refusal (f input)) → f input ≡ fixed
 
--- Demand 2 catches both, since A must run: of every public call, neither kind meets the contract.
+-- Demand 2 catches both, since A must run: of every call on a sheet, neither kind meets the contract.
 -- (And two functions that meet it answer alike on every input.)
 pub record Caught (c : Call) : Type 0 where
   pub refusing : (f : Function c) → Meets c f → RefusesAlways c f → ⊥
