@@ -5,7 +5,7 @@ ghost use Prim.Native.Nat.{_≤_};
 ghost use mathlib.Core.Path.{_≡_};
 ghost use lib.ListN.{length};
 ghost use Rattle.rules.specs.Reading.{word};
-ghost use Rattle.text.specs.Buffer.{Put};
+ghost use Rattle.text.specs.Buffer.{Put, reportRoom};
 ghost use Rattle.text.specs.Text.{printed, printedRun};
 
 fn horizon(input: &[u8]) -> u16
@@ -15,10 +15,10 @@ fn horizon(input: &[u8]) -> u16
     (input[0] as u16) * 256 + (input[1] as u16)
 }
 
-// What a horizon and a sheet print, at the front of a buffer that has room for the longest trace.
+// What a horizon and a sheet print, at the front of a buffer that has room for the longest report.
 fn put_run(out: &mut [u8], h: u16, sheet: &[u8], trace: &mut [u8]) -> usize
     requires { ⌜ 60000 ≤ length (now trace) ⌝ }
-    requires { ⌜ 244096 ≤ length (now out) ⌝ }
+    requires { ⌜ reportRoom 60000 ≤ length (now out) ⌝ }
     ensures { λ r. ⌜ Put (now (out .entry)) 0 (printedRun h (now (sheet .entry))) (now (out .exit)) r ⌝ }
 {
     let ran = simulator::run(sheet, h, trace);
@@ -40,7 +40,7 @@ fn put_run(out: &mut [u8], h: u16, sheet: &[u8], trace: &mut [u8]) -> usize
 fn put_printed(out: &mut [u8], input: &[u8], trace: &mut [u8]) -> usize
     requires { ⌜ length (now input) ≤ 3163 ⌝ }
     requires { ⌜ 60000 ≤ length (now trace) ⌝ }
-    requires { ⌜ 244096 ≤ length (now out) ⌝ }
+    requires { ⌜ reportRoom 60000 ≤ length (now out) ⌝ }
     ensures { λ r. ⌜ Put (now (out .entry)) 0 (printed (now (input .entry))) (now (out .exit)) r ⌝ }
 {
     if input.len() < 2 {
@@ -69,11 +69,13 @@ fn trace_buffer() -> [u8; 60000]
     [0; 60000]
 }
 
-// Room for the longest report, so that it is written at once.
-fn out_buffer() -> [u8; 244096]
-    ensures { λ r. ⌜ 244096 ≡ length r ⌝ }
+// Room for the longest report, so that it is written at once, and some to spare.
+const ROOM: usize = 244096;
+
+fn out_buffer() -> [u8; ROOM]
+    ensures { λ r. ⌜ reportRoom 60000 ≤ length r ⌝ }
 {
-    [0; 244096]
+    [0; ROOM]
 }
 
 // A write that fails, as to a full disk or a closed pipe, ends the program quietly.

@@ -1,6 +1,6 @@
 // What the printing program prints, put into a buffer that the caller lends. Each function puts a text at a cursor and
-// answers the cursor behind it; what the texts are stands in specs/Text.antt. The room that a function asks for is that of
-// its words, with ten bytes for each number.
+// answers the cursor behind it; what the texts are stands in specs/Text.antt, and the room that they ask for in
+// specs/Buffer.antt.
 use rules::Counts;
 use rules::Laxity;
 use rules::Refusal;
@@ -9,7 +9,7 @@ ghost use Prim.Native.Nat.{_+_, _*_, _≤_, _<_};
 ghost use mathlib.Core.Path.{_≡_};
 ghost use mathlib.Core.List.{[], _∷_};
 ghost use lib.ListN.{length, take};
-ghost use Rattle.text.specs.Buffer.{Put, boundAt, laxityAt};
+ghost use Rattle.text.specs.Buffer.{Put, boundAt, laxityAt, wordRoom, numberRoom, fieldRoom, headLineRoom, jobsRoom, timesRoom, laxityRoom, analysisRoom, taskLineRoom, tickRoom, traceLineRoom, reportRoom, refusalLineRoom};
 ghost use Rattle.text.specs.Text.{digit as Text·digit};
 ghost use Rattle.text.specs.Text.{decimal, numbered, headLine, jobs, times, signedDecimal, analysis, taskLine, taskLines, traceLine, report, refusalLine, tickWord};
 
@@ -42,9 +42,9 @@ fn digit(n: u32) -> u8
 
 // A number of 32 bits has at most ten digits.
 fn put_number(out: &mut [u8], at: usize, n: u32) -> usize
-    requires { ⌜ at + 10 ≤ length (now out) ⌝ }
+    requires { ⌜ at + numberRoom ≤ length (now out) ⌝ }
     ensures { λ r. ⌜ Put (now (out .entry)) at (decimal n) (now (out .exit)) r ⌝ }
-    ensures { λ r. ⌜ r ≤ at + 10 ⌝ }
+    ensures { λ r. ⌜ r ≤ at + numberRoom ⌝ }
 {
     if n < 10 {
         return put_byte(out, at, digit(n));
@@ -55,18 +55,19 @@ fn put_number(out: &mut [u8], at: usize, n: u32) -> usize
 
 // A word and the number behind it.
 fn put_field(out: &mut [u8], at: usize, name: &[u8], n: u16) -> usize
-    requires { ⌜ at + (length (now name) + 10) ≤ length (now out) ⌝ }
+    requires { ⌜ length (now name) ≤ wordRoom ⌝ }
+    requires { ⌜ at + fieldRoom ≤ length (now out) ⌝ }
     ensures { λ r. ⌜ Put (now (out .entry)) at (numbered (now (name .entry)) n) (now (out .exit)) r ⌝ }
-    ensures { λ r. ⌜ r ≤ at + (length (now (name .entry)) + 10) ⌝ }
+    ensures { λ r. ⌜ r ≤ at + fieldRoom ⌝ }
 {
     let next = put_text(out, at, name);
     put_number(out, next, n as u32)
 }
 
 fn put_head_line(out: &mut [u8], at: usize, ticks: u16, switches: u16) -> usize
-    requires { ⌜ at + 37 ≤ length (now out) ⌝ }
+    requires { ⌜ at + headLineRoom ≤ length (now out) ⌝ }
     ensures { λ r. ⌜ Put (now (out .entry)) at (headLine ticks switches) (now (out .exit)) r ⌝ }
-    ensures { λ r. ⌜ r ≤ at + 37 ⌝ }
+    ensures { λ r. ⌜ r ≤ at + headLineRoom ⌝ }
 {
     let next = put_field(out, at, b"ticks ", ticks);
     let next = put_field(out, next, b" switches ", switches);
@@ -74,9 +75,9 @@ fn put_head_line(out: &mut [u8], at: usize, ticks: u16, switches: u16) -> usize
 }
 
 fn put_jobs(out: &mut [u8], at: usize, c: Counts) -> usize
-    requires { ⌜ at + 54 ≤ length (now out) ⌝ }
+    requires { ⌜ at + jobsRoom ≤ length (now out) ⌝ }
     ensures { λ r. ⌜ Put (now (out .entry)) at (jobs c) (now (out .exit)) r ⌝ }
-    ensures { λ r. ⌜ r ≤ at + 54 ⌝ }
+    ensures { λ r. ⌜ r ≤ at + jobsRoom ⌝ }
 {
     let next = put_field(out, at, b" releases ", c.releases);
     let next = put_field(out, next, b" done ", c.completions);
@@ -84,9 +85,9 @@ fn put_jobs(out: &mut [u8], at: usize, c: Counts) -> usize
 }
 
 fn put_times(out: &mut [u8], at: usize, c: Counts) -> usize
-    requires { ⌜ at + 51 ≤ length (now out) ⌝ }
+    requires { ⌜ at + timesRoom ≤ length (now out) ⌝ }
     ensures { λ r. ⌜ Put (now (out .entry)) at (times c) (now (out .exit)) r ⌝ }
-    ensures { λ r. ⌜ r ≤ at + 51 ⌝ }
+    ensures { λ r. ⌜ r ≤ at + timesRoom ⌝ }
 {
     let next = put_field(out, at, b" ran ", c.ran);
     let next = put_field(out, next, b" blocked ", c.blocked);
@@ -94,9 +95,9 @@ fn put_times(out: &mut [u8], at: usize, c: Counts) -> usize
 }
 
 fn put_laxity(out: &mut [u8], at: usize, x: Laxity) -> usize
-    requires { ⌜ at + 11 ≤ length (now out) ⌝ }
+    requires { ⌜ at + laxityRoom ≤ length (now out) ⌝ }
     ensures { λ r. ⌜ Put (now (out .entry)) at (signedDecimal x) (now (out .exit)) r ⌝ }
-    ensures { λ r. ⌜ r ≤ at + 11 ⌝ }
+    ensures { λ r. ⌜ r ≤ at + laxityRoom ⌝ }
 {
     if x.below {
         let next = put_byte(out, at, b'-');
@@ -106,9 +107,9 @@ fn put_laxity(out: &mut [u8], at: usize, x: Laxity) -> usize
 }
 
 fn put_analysis(out: &mut [u8], at: usize, bound: u16, laxity: Laxity) -> usize
-    requires { ⌜ at + 36 ≤ length (now out) ⌝ }
+    requires { ⌜ at + analysisRoom ≤ length (now out) ⌝ }
     ensures { λ r. ⌜ Put (now (out .entry)) at (analysis bound laxity) (now (out .exit)) r ⌝ }
-    ensures { λ r. ⌜ r ≤ at + 36 ⌝ }
+    ensures { λ r. ⌜ r ≤ at + analysisRoom ⌝ }
 {
     let next = put_field(out, at, b" bound ", bound);
     let next = put_text(out, next, b" laxity ");
@@ -116,9 +117,9 @@ fn put_analysis(out: &mut [u8], at: usize, bound: u16, laxity: Laxity) -> usize
 }
 
 fn put_task_line(out: &mut [u8], at: usize, i: u32, c: Counts, bound: u16, laxity: Laxity) -> usize
-    requires { ⌜ at + 152 ≤ length (now out) ⌝ }
+    requires { ⌜ at + taskLineRoom ≤ length (now out) ⌝ }
     ensures { λ r. ⌜ Put (now (out .entry)) at (taskLine i c bound laxity) (now (out .exit)) r ⌝ }
-    ensures { λ r. ⌜ r ≤ at + 152 ⌝ }
+    ensures { λ r. ⌜ r ≤ at + taskLineRoom ⌝ }
 {
     let next = put_number(out, at, i);
     let next = put_jobs(out, next, c);
@@ -137,9 +138,9 @@ fn put_task_lines(
     laxities: [Laxity; 16],
 ) -> usize
     requires { ⌜ n ≤ 16 ⌝ }
-    requires { ⌜ at + 152 * 16 ≤ length (now out) ⌝ }
+    requires { ⌜ at + taskLineRoom * 16 ≤ length (now out) ⌝ }
     ensures { λ r. ⌜ Put (now (out .entry)) at (taskLines n st (boundAt bounds) (laxityAt laxities)) (now (out .exit)) r ⌝ }
-    ensures { λ r. ⌜ r ≤ at + 152 * 16 ⌝ }
+    ensures { λ r. ⌜ r ≤ at + taskLineRoom * 16 ⌝ }
 {
     let mut next = at;
     let mut i = 0;
@@ -155,9 +156,9 @@ fn put_task_lines(
 
 // One word of the trace line, with the space before it.
 fn put_runner(out: &mut [u8], at: usize, x: u8) -> usize
-    requires { ⌜ at + 11 ≤ length (now out) ⌝ }
+    requires { ⌜ at + (1 + numberRoom) ≤ length (now out) ⌝ }
     ensures { λ r. ⌜ Put (now (out .entry)) at (tickWord x) (now (out .exit)) r ⌝ }
-    ensures { λ r. ⌜ r ≤ at + 4 ⌝ }
+    ensures { λ r. ⌜ r ≤ at + tickRoom ⌝ }
 {
     let next = put_byte(out, at, b' ');
     if x == 255 {
@@ -169,12 +170,12 @@ fn put_runner(out: &mut [u8], at: usize, x: u8) -> usize
     put_number(out, next, x as u32)
 }
 
-// The first h bytes of a trace: a word with its space has at most four bytes.
+// The first h bytes of a trace.
 fn put_trace_line(out: &mut [u8], at: usize, trace: &[u8], h: usize) -> usize
     requires { ⌜ h ≤ length (now trace) ⌝ }
-    requires { ⌜ at + (4 * h + 32) ≤ length (now out) ⌝ }
+    requires { ⌜ at + traceLineRoom h ≤ length (now out) ⌝ }
     ensures { λ r. ⌜ Put (now (out .entry)) at (traceLine (take h (now (trace .entry)))) (now (out .exit)) r ⌝ }
-    ensures { λ r. ⌜ r ≤ at + (4 * h + 32) ⌝ }
+    ensures { λ r. ⌜ r ≤ at + traceLineRoom h ⌝ }
 {
     let mut next = put_text(out, at, b"trace");
     let mut i = 0;
@@ -198,7 +199,7 @@ pub fn put_report(
 ) -> usize
     requires { ⌜ n ≤ 16 ⌝ }
     requires { ⌜ h ≤ length (now trace) ⌝ }
-    requires { ⌜ at + (4 * h + 4096) ≤ length (now out) ⌝ }
+    requires { ⌜ at + reportRoom h ≤ length (now out) ⌝ }
     ensures { λ r. ⌜ Put (now (out .entry)) at (report n st (boundAt bounds) (laxityAt laxities) (take h (now (trace .entry)))) (now (out .exit)) r ⌝ }
 {
     let next = put_head_line(out, at, st.t, st.switches);
@@ -208,7 +209,7 @@ pub fn put_report(
 
 // All that a refusal prints.
 pub fn put_refusal_line(out: &mut [u8], at: usize, x: Refusal) -> usize
-    requires { ⌜ at + 64 ≤ length (now out) ⌝ }
+    requires { ⌜ at + refusalLineRoom ≤ length (now out) ⌝ }
     ensures { λ r. ⌜ Put (now (out .entry)) at (refusalLine x) (now (out .exit)) r ⌝ }
 {
     let next = put_field(out, at, b"refused ", x.number as u16);

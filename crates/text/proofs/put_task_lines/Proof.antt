@@ -5,7 +5,7 @@ use mathlib.Core.List.{flatMap}
 use native.Mathlib.Omega.{arith}
 use Rattle.rules.specs.Words.{row}
 use Rattle.rules.specs.Record.{recordAt}
-use Rattle.text.specs.Buffer.{Put, boundAt, laxityAt}
+use Rattle.text.specs.Buffer.{Put, taskLineRoom, boundAt, laxityAt}
 use Rattle.text.specs.Text.{taskLines}
 use Rattle.text.proofs.Put.{put-none, put-length, lines-more}
 use Rattle.text.proofs.put_task_lines.Statement.{statement}
@@ -13,7 +13,7 @@ use Rattle.text.proofs.put_task_lines.Tie as tie
 
 abbrev Inv-loop : tie.InvT-loop
 Inv-loop out₀ at n st bounds laxities next₀ i₀ out next i =
-    (i ≤ n) × Put out₀ at (taskLines i st (boundAt bounds) (laxityAt laxities)) out next × (next ≤ at + 152 * i)
+    (i ≤ n) × Put out₀ at (taskLines i st (boundAt bounds) (laxityAt laxities)) out next × (next ≤ at + taskLineRoom * i)
 
 abbrev μ-loop : tie.MeasureT-loop
 μ-loop out₀ at n st bounds laxities next₀ i₀ out next i = n - i

@@ -4,7 +4,7 @@ use mathlib.Core.Path.{_≡_, refl, _∙_}
 use mathlib.Core.List.{flatMap}
 use native.Mathlib.Omega.{arith}
 use lib.ListN.{take}
-use Rattle.text.specs.Buffer.{Put}
+use Rattle.text.specs.Buffer.{Put, tickRoom}
 use Rattle.text.specs.Text.{tickWord, traceLine}
 use Rattle.text.proofs.Put.{put-none, put-length, put-more, words-more}
 use Rattle.text.proofs.put_trace_line.Statement.{statement}
@@ -12,7 +12,7 @@ use Rattle.text.proofs.put_trace_line.Tie as tie
 
 abbrev Inv-loop : tie.InvT-loop
 Inv-loop out₀ at trace h next₀ i₀ out next i =
-    (i ≤ h) × Put out₀ next₀ (flatMap tickWord (take i trace)) out next × (next ≤ next₀ + 4 * i)
+    (i ≤ h) × Put out₀ next₀ (flatMap tickWord (take i trace)) out next × (next ≤ next₀ + tickRoom * i)
 
 abbrev μ-loop : tie.MeasureT-loop
 μ-loop out₀ at trace h next₀ i₀ out next i = h - i
