@@ -10,17 +10,12 @@ use borrow.Author.Tests.{leb-true}
 use Rattle.rules.specs.Words.{_≤?_}
 use Rattle.rules.specs.Sheet.{Step}
 use Rattle.rules.specs.Reading.{Reading, read, refused, refusal, _>>=_, refuse_of_at_when_, readHead, headLength, readTaskHead, readStep, readSteps, readTask, readTasks, readSheet}
-use Rattle.rules.specs.Laws.{Given}
+use Rattle.rules.specs.Laws.{Given, Numbered, RefusalsGiven}
 use Rattle.rules.specs.Answers.{why, readTick, readRun}
 use Rattle.rules.specs.declared.Head.{Head}
 use Rattle.rules.specs.declared.State.{State}
 use Rattle.rules.proofs.Laws.{and-left, and-right}
 use Rattle.rules.proofs.Reading.{head-passed, task-head-passed}
-
--- what was read has no number; a refusal has one, and its place
-abbrev pub Numbered : {A : Type 0} → Reading A → Type 0
-Numbered (read a) = Unit {0}
-Numbered (refused x) = Given x
 
 given-bind : {A B : Type 0} (r : Reading A) (f : A → Reading B) → Numbered r → ((a : A) → Numbered (f a)) → Numbered (r >>= f)
 unfolding _>>=_
@@ -106,7 +101,7 @@ tasks-numbered head i (suc n) bytes l =
     given-bind (readTask head i bytes) _ (task-numbered head i bytes (omega arith))
     (λ one. given-bind (readTasks head (i + 1) n (one .1)) _ (tasks-numbered head (i + 1) n (one .1) (omega arith)) (λ more. tt))
 
-pub sheet-numbered : (bytes : List ℕ) → Numbered (readSheet bytes)
+sheet-numbered : (bytes : List ℕ) → Numbered (readSheet bytes)
 unfolding readSheet readHead
 sheet-numbered bytes = given-read (readHead bytes) _
     (given-test 1 0 0 _ _ (ofWhole 1 refl) λ u.
@@ -119,17 +114,21 @@ sheet-numbered bytes = given-read (readHead bytes) _
     (tasks-numbered head 0 (head .n) (drop 8 bytes) (omega (arith, head-passed bytes head e .few)))
     (λ tasks. given-test 13 0 0 _ _ (ofWhole 13 refl) λ u. tt))
 
-pub tick-numbered : (bytes : List ℕ) (st : State) → Numbered (readTick bytes st)
+tick-numbered : (bytes : List ℕ) (st : State) → Numbered (readTick bytes st)
 unfolding readTick
 tick-numbered bytes st = given-bind (readSheet bytes) _ (sheet-numbered bytes) λ sheet.
     given-test 16 0 0 _ _ (ofWhole 16 refl) λ u.
     given-test 17 0 0 _ _ (ofWhole 17 refl) λ u. tt
 
-pub run-numbered : (bytes : List ℕ) (horizon : ℕ) (buffer : List ℕ) → Numbered (readRun bytes horizon buffer)
+run-numbered : (bytes : List ℕ) (horizon : ℕ) (buffer : List ℕ) → Numbered (readRun bytes horizon buffer)
 unfolding readRun
 run-numbered bytes horizon buffer = given-bind (readSheet bytes) _ (sheet-numbered bytes) λ sheet.
     given-test 14 0 0 _ _ (ofWhole 14 refl) λ u.
     given-test 15 0 0 _ _ (ofWhole 15 refl) λ u. tt
+
+-- THE LAW: every refusal is as document 01 says
+pub refusalsGiven : RefusalsGiven
+refusalsGiven = record { ofSheet = sheet-numbered; ofTick = tick-numbered; ofRun = run-numbered }
 
 -- a call that gives number 0 was read
 pub was-read : {A : Type 0} (r : Reading A) → Numbered r → why r .number ≡ 0 → (a : A) × (r ≡ read a)

@@ -5,16 +5,17 @@ use mathlib.Core.Logic.{_⊎_, _↔_}
 use mathlib.Core.List.{List, [], _∷_, _++_}
 use mathlib.Core.Bool.{Bool, true, false, not, _&&_}
 use lib.ListN.{length, take}
-use lib.IntN.{ℤ}
+use lib.IntN.{ℤ, pos, negsuc}
 use lib.Signed.{nonNeg}
 use Rattle.rules.specs.Words.{_≤?_, any, leading}
 use Rattle.rules.specs.Sheet.{Step, run, lock, unlock, Task, Sheet, taskAt, Body, isLock, isLockOf, held}
-use Rattle.rules.specs.Reading.{read, longestSheet, misplaced, readSheet}
+use Rattle.rules.specs.Reading.{Reading, read, refused, longestSheet, misplaced, readSheet}
 use Rattle.rules.specs.Fields.{start}
 use Rattle.rules.specs.Record.{recordAt, ahead, possible}
 use Rattle.rules.specs.Choice.{Runner, job, Walks, topJob, heldByOther, runner}
 use Rattle.rules.specs.Tick.{afterReleases, runnerOf, tick}
-use Rattle.rules.specs.Bounds.{demand, laxity}
+use Rattle.rules.specs.Bounds.{demand, slack, laxity}
+use Rattle.rules.specs.Answers.{readTick, readRun}
 use Rattle.rules.specs.declared.Head.{Head}
 use Rattle.rules.specs.declared.Job.{Job}
 use Rattle.rules.specs.declared.Refusal.{Refusal}
@@ -76,6 +77,16 @@ pub record Given (x : Refusal) : Type 0 where
   pub step : (x .number < 11) ⊎ (12 < x .number) → x .step ≡ 0
   pub stepTo : x .step ≤ 64
 
+-- So it is of every refusal: of a sheet, of a tick, of a run.
+abbrev pub Numbered : {A : Type 0} → Reading A → Type 0
+Numbered (read a) = Unit {0}
+Numbered (refused x) = Given x
+
+pub record RefusalsGiven : Type 0 where
+  pub ofSheet : (bytes : List ℕ) → Numbered (readSheet bytes)
+  pub ofTick : (bytes : List ℕ) (st : State) → Numbered (readTick bytes st)
+  pub ofRun : (bytes : List ℕ) (horizon : ℕ) (buffer : List ℕ) → Numbered (readRun bytes horizon buffer)
+
 -- Rule 4 as computed finds what document 01 says: the first candidate that may go, or a candidate that comes round again.
 abbrev pub WalksToRunner : Type 0
 WalksToRunner = (sheet : Sheet) (records : List TaskRecord) → topJob records < 16 → (x : Runner)
@@ -113,6 +124,25 @@ pub record Point (sheet : Sheet) (i t : ℕ) : Type 0 where
   pub from : 1 ≤ l
   pub time : t ≡ l * taskAt sheet k .period
   pub within : t ≤ taskAt sheet i .period
+
+-- The order of slacks, which may be negative.
+infix 50 _≼_
+abbrev pub _≼_ : ℤ → ℤ → Type 0
+pos a ≼ pos b = a ≤ b
+pos a ≼ negsuc b = ⊥
+negsuc a ≼ pos b = Unit {0}
+negsuc a ≼ negsuc b = b ≤ a
+
+-- The laxity of task i is the largest slack over its points: it is the slack at one of them, and at no other is it larger.
+pub record LargestSlack (sheet : Sheet) (i : ℕ) (z : ℤ) : Type 0 where
+  pub time : ℕ
+  pub point : Point sheet i time
+  pub there : z ≡ slack sheet i time
+  pub largest : (t : ℕ) → Point sheet i t → slack sheet i t ≼ z
+
+abbrev pub LaxityLargest : Type 0
+LaxityLargest = (bytes : List ℕ) (sheet : Sheet) → readSheet bytes ≡ read sheet → (i : ℕ) → i < length (sheet .tasks)
+    → LargestSlack sheet i (laxity sheet i)
 
 -- Laxity is negative exactly if no point carries its demand.
 abbrev pub Negative : ℤ → Type 0

@@ -15,8 +15,8 @@ use Rattle.rules.specs.Reading.{Reading, read, refused, refusal, _>>=_, refuse_
 use Rattle.rules.specs.Answers.{why}
 use Rattle.rules.proofs.Reading.{both-read, got, head-passed}
 use Rattle.rules.proofs.Limits.{sheet-size}
-use Rattle.rules.specs.Laws.{Given}
-use Rattle.rules.proofs.Numbers.{Numbered, sheet-numbered}
+use Rattle.rules.specs.Laws.{Given, Numbered}
+use Rattle.rules.proofs.Numbers.{refusalsGiven}
 use Rattle.rules.proofs.Laws.{below, and-at, row-same}
 use Rattle.rules.specs.declared.Head.{Head}
 use Rattle.rules.specs.declared.Refusal.{Refusal}
@@ -43,7 +43,7 @@ sheet-rest s h =
 pub parsed-refused : (s : List ℕ) (x : Refusal) (r : Parsed) → refused x ≡ readSheet s → r ≡ turnedAway x → ParsedFrom s r
 unfolding why
 parsed-refused s x r e u =
-    let given : Given x = subst Numbered (sym e) (sheet-numbered s) in
+    let given : Given x = subst Numbered (sym e) (refusalsGiven .ofSheet s) in
     subst (ParsedFrom s) (sym u) (record {
       reason = ap why e;
       tabled = λ z. absurd (omega (arith, given .some));

@@ -27,7 +27,8 @@ use Rattle.rules.proofs.Reading.{both-read, passed, sheet-few}
 use Rattle.text.specs.Buffer.{boundAt, laxityAt}
 use Rattle.text.specs.Text.{headLine, traceLine, taskLine, taskLines, report, refusalLine, printedRun, printed}
 use Rattle.text.proofs.Put.{flatMap-more}
-use Rattle.rules.proofs.Numbers.{Numbered, run-numbered}
+use Rattle.rules.specs.Laws.{Numbered}
+use Rattle.rules.proofs.Numbers.{refusalsGiven}
 
 -- input that fits: a horizon and a sheet, or under two bytes
 module _ (input : List ℕ) (few : length input ≤ 3163) where
@@ -97,7 +98,7 @@ module _ (bytes : List ℕ) (h : ℕ) (buffer : List ℕ) (enough : 60000 ≤ le
   -- a refusal with number 0 is none: what holds of an accepted run
   accepted-run : {P : Type 0} → ran bytes h buffer .refusal .number ≡ 0 → ((sheet : Sheet) → readRun bytes h buffer ≡ read sheet → P) → P
   unfolding ran why
-  accepted-run {P} n k = go (readRun bytes h buffer) refl (run-numbered bytes h buffer) n
+  accepted-run {P} n k = go (readRun bytes h buffer) refl (refusalsGiven .ofRun bytes h buffer) n
     where
       go : (r : Reading Sheet) → readRun bytes h buffer ≡ r → Numbered r → why r .number ≡ 0 → P
       go (read sheet) e m n = k sheet e
