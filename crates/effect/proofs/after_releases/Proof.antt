@@ -3,13 +3,13 @@ use Prim.Native.Nat.{ℕ, _≤_, _-_}
 use mathlib.Core.Path.{_≡_, _∙_, ap, sym}
 use mathlib.Core.Logic.{⊎-elim}
 use native.Mathlib.Omega.{arith}
-use lib.ListN.{length-map}
 use denote.Ref.{now}
 use borrow.Author.Needs.{needs}
 use Rattle.rules.specs.Record.{recordAt}
 use Rattle.table.proofs.Laws.{entry-in, lies-from}
 use Rattle.rules.specs.Fields.{withTasks}
 use Rattle.effect.specs.Effect.{changedBelow}
+use Rattle.record.proofs.Sized.{sixteen}
 use Rattle.effect.proofs.Laws.{releasing, releases-none, releases-all, releases-here, releases-more, releases-no, period-from}
 use Rattle.effect.proofs.after_releases.Statement.{statement}
 use Rattle.effect.proofs.after_releases.Tie as tie
@@ -26,7 +26,7 @@ cast-n c = search needs
 loop-holds : tie.Need-loop-holds Inv-loop μ-loop
 loop-holds c =
     let b = c .before in
-    (omega arith, releases-none (now (b .args .s)) (b .args .t2) (b .args .st) (sym (length-map (b .args .st .tasks) _) ∙ b .good .1 .1 .0 .1 .1 .1 .1 .1 .0 .1 .0 .1))
+    (omega arith, releases-none (now (b .args .s)) (b .args .t2) (b .args .st) (sixteen (b .args .st) (b .good .1 .1 .0)))
 
 mul-e : tie.Need-mul-e Inv-loop μ-loop
 mul-e c = omega arith

@@ -1,10 +1,9 @@
 -- 254 and 255 leave every record; a job that runs blocks the pending ones of smaller rank and changes its own record.
-use mathlib.Core.Path.{sym, _∙_}
-use lib.ListN.{length-map}
 use denote.Ref.{now}
 use borrow.Author.Needs.{needs}
 use Rattle.rules.specs.Record.{recordAt}
 use Rattle.table.proofs.Laws.{lies-from}
+use Rattle.record.proofs.Sized.{sixteen}
 use Rattle.effect.proofs.Laws.{blocked-here, ran-nobody, ran-job}
 use Rattle.effect.proofs.after_runner.Statement.{statement}
 use Rattle.effect.proofs.after_runner.Tie as tie
@@ -12,7 +11,7 @@ use Rattle.effect.proofs.after_runner.Tie as tie
 returns : tie.Need-returns
 returns c =
     let b = c .before .before in
-    ran-nobody _ _ (b .args .st) _ (c .if1 .taken) (sym (length-map (b .args .st .tasks) _) ∙ b .good .1 .1 .1 .0 .1 .1 .1 .1 .1 .0 .1 .0 .1)
+    ran-nobody _ _ (b .args .st) _ (c .if1 .taken) (sixteen (b .args .st) (b .good .1 .1 .1 .0))
 
 entry-at-requires : tie.Need-entry-at-requires
 entry-at-requires c κs = search needs

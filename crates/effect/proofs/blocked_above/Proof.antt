@@ -1,12 +1,12 @@
 -- Rank by rank below the runner's, a pending job is blocked once and another record stays.
 use Prim.Native.Nat.{ℕ, _≤_, _-_}
-use mathlib.Core.Path.{_≡_, _∙_, ap, sym}
+use mathlib.Core.Path.{_≡_, _∙_, ap}
 use mathlib.Core.Logic.{⊎-elim}
 use native.Mathlib.Omega.{arith}
-use lib.ListN.{length-map}
 use Rattle.rules.specs.Record.{recordAt}
 use Rattle.rules.specs.Fields.{TicksBlocked, withTasks}
 use Rattle.effect.specs.Effect.{eachBlocked, blockedOnce}
+use Rattle.record.proofs.Sized.{sixteen}
 use Rattle.effect.proofs.Laws.{changed-none, blocked-here, blocked-yes, blocked-more, blocked-no}
 use Rattle.effect.proofs.blocked_above.Statement.{statement}
 use Rattle.effect.proofs.blocked_above.Tie as tie
@@ -18,7 +18,7 @@ abbrev μ-loop : tie.MeasureT-loop
 μ-loop x next₀ i₀ next i = x - i
 
 loop-holds : tie.Need-loop-holds Inv-loop μ-loop
-loop-holds c = (omega arith, ap (withTasks (c .args .st)) (changed-none (λ i r. blockedOnce r) (c .args .st .tasks) (sym (length-map (c .args .st .tasks) _) ∙ c .good .1 .0 .1 .1 .1 .1 .1 .0 .1 .0 .1)))
+loop-holds c = (omega arith, ap (withTasks (c .args .st)) (changed-none (λ i r. blockedOnce r) (c .args .st .tasks) (sixteen (c .args .st) (c .good .1 .0))))
 
 mul-r : tie.Need-mul-r Inv-loop μ-loop
 mul-r c = omega arith
