@@ -1,67 +1,38 @@
 -- Rules 6 and 7 fix the totals tick by tick.
 use Prim.Native.Nat.{ℕ, zero, suc, _+_, _<_}
 use mathlib.Core.Path.{_≡_, refl, sym, ap, _∙_}
-use mathlib.Core.Logic.{⊎-elim}
-use mathlib.Core.List.{List, [], _∷_}
 use mathlib.Core.Bool.{Bool, true, false, not, _&&_}
 use native.Mathlib.Omega.{arith}
 use native.Mathlib.Nat.{add-zero}
 use lib.ListN.{length, getD, replicate}
 use borrow.Author.Tests.{eqb-true, lt-ltb, le-ltb}
-use Rattle.rules.specs.Words.{if_then_else_, _<?_, _=?_, total, among}
+use Rattle.rules.specs.Words.{if_then_else_, _<?_, _=?_, total}
 use Rattle.rules.specs.Sheet.{Task, Sheet, taskAt}
 use Rattle.rules.specs.Fields.{TicksRun, TicksBlocked, up, blank, start}
 use Rattle.rules.specs.Record.{recordAt}
-use Rattle.rules.specs.Choice.{Runner, job, stuck, idle, runnerByte, topJob, mayGo, nextCandidate, walk, runner}
-use Rattle.rules.specs.Tick.{releasesAt, released, afterReleases, leftOfRun, behindUnlocks, advanced, spent, afterRunner, closed, runnerOf, tick}
+use Rattle.rules.specs.Choice.{Runner, job, stuck, idle, runnerByte, runner}
+use Rattle.rules.specs.Tick.{released, afterReleases, advanced, spent, afterRunner, closed, runnerOf, tick}
 use Rattle.rules.specs.Run.{after}
 use Rattle.rules.specs.declared.TaskRecord.{TaskRecord}
 use Rattle.rules.specs.declared.State.{State}
-use Rattle.rules.proofs.Laws.{sure, true-false, smallest-found, row-at}
-use Rattle.rules.proofs.Choice.{next-holds}
+use Rattle.rules.proofs.Laws.{true-false, row-at, if-cases}
+use Rattle.rules.proofs.Runner.{runner-below}
+use Rattle.rules.proofs.Tick.{released-cases, advanced-cases}
 use Rattle.theorems.specs.Shams.{one, switchNow, blockedNow, blockedOf, TotalsOfRuns}
 
 -- a runner that is a job is a rank
 abbrev Ranked : Runner → Type 0
-Ranked (job j) = j < 16
-Ranked stuck = Unit {0}
-Ranked idle = Unit {0}
-
-module _ (sheet : Sheet) (rs : List TaskRecord) where
-  walk-ranked : (more : ℕ) (seen : List ℕ) (i : ℕ) → i < 16 → Ranked (walk sheet rs more seen i)
-  unfolding walk
-  walk-ranked zero seen i l = tt
-  walk-ranked (suc more) seen i l = ⊎-elim
-      (λ u. rw u tt)
-      (λ u. rw u (⊎-elim
-      (λ v. rw v l)
-      (λ v. rw v (walk-ranked more (i ∷ seen) (nextCandidate sheet rs i) (next-holds sheet rs i v .0)))
-      (sure (mayGo sheet rs i))))
-      (sure (among i seen))
-
-  runner-ranked : Ranked (runner sheet rs)
-  unfolding runner topJob
-  runner-ranked = ⊎-elim
-      (λ w. ⊎-elim (λ u. rw u tt) (λ u. rw u (walk-ranked 16 [] (topJob rs) (w .0))) (sure (topJob rs =? 255)))
-      (λ w. let z : topJob rs ≡ 255 = w .0 in rw z tt)
-      (smallest-found 16 255 (λ i. recordAt rs i .job .pending))
+Ranked x = (k : ℕ) → x ≡ job k → k < 16
 
 -- rule 1 and rule 5 leave the count of ticks blocked
 abbrev blocked : TaskRecord → ℕ
 blocked r = r .counts .blocked
 
-if-blocked : (c : Bool) (x y : TaskRecord) (n : ℕ) → blocked x ≡ n → blocked y ≡ n → blocked (if c then x else y) ≡ n
-if-blocked true x y n p q = p
-if-blocked false x y n p q = q
-
 released-blocked : (t : ℕ) (task : Task) (r : TaskRecord) → blocked (released t task r) ≡ blocked r
-unfolding released
-released-blocked t task r = if-blocked (not (releasesAt t task)) _ _ _ refl (if-blocked (r .job .pending) _ _ _ refl refl)
+released-blocked t task r = released-cases (λ x. blocked x ≡ blocked r) t task r (λ e. refl) (λ e p. refl) (λ e p. refl)
 
 advanced-blocked : (t : ℕ) (task : Task) (r : TaskRecord) → blocked (advanced t task r) ≡ blocked r
-unfolding advanced
-advanced-blocked t task r =
-    if-blocked (1 <? leftOfRun task (r .job)) _ _ _ refl (if-blocked (behindUnlocks task (r .job) <? length (task .steps)) _ _ _ refl refl)
+advanced-blocked t task r = advanced-cases (λ x. blocked x ≡ blocked r) t task r (λ l. refl) (λ l h. refl) (λ l h. refl)
 
 -- rule 6 lets it rise by one where the job is blocked
 job-blocked : (low same under waits : Bool) (ran r : TaskRecord) → low ≡ true → (same ≡ true → under ≡ false) → blocked ran ≡ blocked r
@@ -81,21 +52,22 @@ spent-blocked stuck t i task r l = sym (add-zero (blocked r))
 spent-blocked idle t i task r l = sym (add-zero (blocked r))
 spent-blocked (job x) t i task r l =
     job-blocked (x <? 254) (i =? x) (i <? x) (r .job .pending) (advanced t task r) r
-    (lt-ltb x 254 (omega arith)) (λ u. let same = eqb-true i x u in le-ltb i x (omega arith)) (advanced-blocked t task r)
+    (lt-ltb x 254 (omega (arith, l x refl))) (λ u. let same = eqb-true i x u in le-ltb i x (omega arith)) (advanced-blocked t task r)
 
 module _ (sheet : Sheet) (st : State) where
   releases-blocked : (i : ℕ) → i < 16 → blocked (recordAt (afterReleases sheet st) i) ≡ blockedOf st i
   unfolding afterReleases recordAt
   releases-blocked i l =
       ap blocked (row-at 16 _ blank i l)
-      ∙ if-blocked (i <? length (sheet .tasks)) _ _ _ (released-blocked (st .t) (taskAt sheet i) (recordAt (st .tasks) i)) refl
+      ∙ if-cases (λ x. blocked x ≡ blockedOf st i) (i <? length (sheet .tasks)) _ _
+      (λ u. released-blocked (st .t) (taskAt sheet i) (recordAt (st .tasks) i)) (λ u. refl)
 
   pub tick-blocked : (i : ℕ) → i < 16 → blockedOf (tick sheet st) i ≡ blockedOf st i + one (blockedNow sheet st (runnerByte (runnerOf sheet st)) i)
   unfolding tick runnerOf closed afterRunner recordAt
   tick-blocked i l =
       let rs = afterReleases sheet st in
       ap blocked (row-at 16 _ blank i l)
-      ∙ spent-blocked (runner sheet rs) (st .t) i (taskAt sheet i) (recordAt rs i) (runner-ranked sheet rs)
+      ∙ spent-blocked (runner sheet rs) (st .t) i (taskAt sheet i) (recordAt rs i) (runner-below sheet rs)
       ∙ ap (λ (n : ℕ). n + one (blockedNow sheet st (runnerByte (runner sheet rs)) i)) (releases-blocked i l)
 
   pub tick-switches : tick sheet st .switches ≡ st .switches + one (switchNow st (runnerByte (runnerOf sheet st)))
