@@ -1,15 +1,15 @@
 -- Laws of demands, points and laxities by rows, and that they are a sheet's.
-use Prim.Native.Nat.{ℕ, _+_, _-_, _*_, _/_, _≤_, _<_}
+use Prim.Native.Nat.{ℕ, _+_, _-_, _*_, _/_, _%_, _≤_, _<_}
 use mathlib.Core.Path.{_≡_, refl, sym, ap, ap₂, _∙_, subst}
 use mathlib.Core.Logic.{_↔_, ⊎-elim}
 use mathlib.Core.List.{List}
 use mathlib.Core.Bool.{true}
 use native.Mathlib.Omega.{arith}
 use native.Mathlib.Numerals.{add-one}
-use native.Mathlib.Nat.{mul-le-mul, mul-one, div-le-self, le-div-iff-mul-le, div-lt-iff-lt-mul}
+use native.Mathlib.Nat.{mul-le-mul, mul-one, div-le-self, le-div-iff-mul-le}
 use lib.ListN.{length, getD}
 use lib.IntN.{pos, _-ℤ_}
-use borrow.Author.Tests.{lt-ltb, le-ltb}
+use borrow.Author.Tests.{lt-ltb, le-ltb, eq-eqb, ne-eqb}
 use mir.Val.{Fits}
 use mir.Syntax.{w16, w32, w64}
 use Rattle.rules.specs.Words.{if_then_else_, _<?_, row, total}
@@ -25,11 +25,21 @@ use Rattle.analysis.specs.Laxity.{demandOf, demandFrom, slackFrom, point
 use Rattle.analysis.proofs.Laws.{Filled, filled-ranks, ranked, total-le}
 use Rattle.analysis.proofs.Bounds.{limits}
 use Rattle.analysis.proofs.Integers.{AtLeast, AtMost, lowered-slack, largest-at-least, largest-at-most, slack-at-least, slack-at-most, lowered-at-least, lowered-at-most}
+use Rattle.rules.proofs.Rounding.{roundedUp-least}
 use Rattle.rules.proofs.Points.{largestOf-same}
 
-pub rounded : (t p : ℕ) → t < 65536 → p < 65536 → ((t + (p - 1)) / p ≡ roundedUp t p) × ((t + (p - 1)) / p < 131072)
-unfolding roundedUp
-rounded t p l m = (refl, omega (arith, div-le-self (t + (p - 1)) p))
+-- the two ways out of rounding up: nothing is left, or one more
+module _ (t p : ℕ) (l : t < 65536) where
+  pub rounded-whole : t % p ≡ 0 → (t / p ≡ roundedUp t p) × (t / p < 131072)
+  unfolding roundedUp
+  rounded-whole e = (rw (eq-eqb (t % p) 0 e) (omega arith), omega (arith, div-le-self t p))
+
+  pub rounded-fits : Fits w32 (t / p + 1)
+  rounded-fits = record { fits = omega (arith, div-le-self t p) }
+
+  pub rounded-more : (t % p ≡ 0 → ⊥) → (t / p + 1 ≡ roundedUp t p) × (t / p + 1 < 131072)
+  unfolding roundedUp
+  rounded-more e = (rw (ne-eqb (t % p) 0 e) refl, omega (arith, div-le-self t p))
 
 -- C of a rank times what is rounded up
 product : (c n : ℕ) → c < 65536 → n < 131072 → c * n ≤ 8_589_934_592
@@ -60,12 +70,16 @@ demand-end costs periods b i t r sum l m e = e ∙ ap (λ (x : ℕ). b + total x
 
 -- up to a time that is no more than its period a rank demands its C once
 once : (costs periods : List ℕ) (t r : ℕ) → 1 ≤ t → t ≤ getD periods r 0 → demandOf costs periods t r ≡ getD costs r 0
-unfolding demandOf roundedUp
+unfolding demandOf
 once costs periods t r l m =
     let p = getD periods r 0 in
-    let low : 1 ≤ (t + (p - 1)) / p = le-div-iff-mul-le {k = p} {x = 1} {y = t + (p - 1)} (omega arith) .1 (omega arith) in
-    let high : (t + (p - 1)) / p < 2 = div-lt-iff-lt-mul {k = p} {x = t + (p - 1)} {y = 2} (omega arith) .1 (omega arith) in
-    ap (λ (x : ℕ). getD costs r 0 * x) (let z : (t + (p - 1)) / p ≡ 1 = omega arith in z) ∙ mul-one (getD costs r 0)
+    let ρ = roundedUp-least t p (omega arith) in
+    let low : 1 ≤ roundedUp t p = ⊎-elim
+    (λ u. let z : roundedUp t p ≡ 0 = omega arith in omega (arith, rw z at (ρ .reaches)))
+    (λ u. u)
+    (below (roundedUp t p) 1) in
+    let high : roundedUp t p ≤ 1 = ρ .least 1 (omega arith) in
+    ap (λ (x : ℕ). getD costs r 0 * x) (let z : roundedUp t p ≡ 1 = omega arith in z) ∙ mul-one (getD costs r 0)
 
 pub slack-turn : (costs periods : List ℕ) (b i t d v : ℕ) → d ≡ demandFrom costs periods b i t → d ≤ raise → v ≡ t + raise - d → lowered v ≡ slackFrom costs periods b i t
 unfolding slackFrom

@@ -182,12 +182,16 @@ pub fn bounds_of(s: &[u8], table: Table, cs: [u8; 16]) -> [u16; 16]
 // A slack may be negative: it is kept raised by 2 ^ 40, which is above every demand.
 const RAISE: u64 = 1_099_511_627_776;
 
-// t over a period, rounded up.
+// t over a period, rounded up: the quotient, and one more if a remainder is left.
 fn rounded_up(t: u32, period: u32) -> u32
     requires { ⌜ (1 ≤ period) × (period < 65536) × (t < 65536) ⌝ }
     ensures { λ r. ⌜ (r ≡ roundedUp t period) × (r < 131072) ⌝ }
 {
-    (t + (period - 1)) / period
+    let quotient = t / period;
+    if t % period == 0 {
+        return quotient;
+    }
+    quotient + 1
 }
 
 // What task i demands up to t, with the bound b.

@@ -5,6 +5,7 @@ pub mod Reading
 pub mod Choice
 pub mod Walk
 pub mod Nesting
+pub mod Rounding
 pub mod Points
 pub mod Numbers
 pub mod Tick

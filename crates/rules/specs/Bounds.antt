@@ -1,5 +1,5 @@
 -- BOUNDS AND LAXITIES.
-use Prim.Native.Nat.{ℕ, zero, suc, _+_, _-_, _*_, _/_}
+use Prim.Native.Nat.{ℕ, zero, suc, _+_, _*_, _/_, _%_}
 use mathlib.Core.List.{List, [], _∷_}
 use mathlib.Core.Bool.{Bool}
 use lib.ListN.{drop}
@@ -45,9 +45,9 @@ bound sheet i = largest 16 λ j. largest 64 λ k. countedSection sheet i j k
 unfoldable pub cost : Task → ℕ
 cost task = runs (task .steps)
 
--- t over a period, rounded up.
+-- t over a period, rounded up: the quotient, and one more if a remainder is left.
 unfoldable pub roundedUp : (t period : ℕ) → ℕ
-roundedUp t period = (t + (period - 1)) / period
+roundedUp t period = t / period + (if t % period =? 0 then 0 else 1)
 
 -- What task i demands up to t: B and the sum over r at most i of C of r times (t over r's period, rounded up).
 unfoldable pub demand : Sheet → (i t : ℕ) → ℕ

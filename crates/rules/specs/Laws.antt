@@ -14,7 +14,7 @@ use Rattle.rules.specs.Fields.{start}
 use Rattle.rules.specs.Record.{recordAt, ahead, possible}
 use Rattle.rules.specs.Choice.{Runner, job, Walks, topJob, heldByOther, runner}
 use Rattle.rules.specs.Tick.{afterReleases, runnerOf, tick}
-use Rattle.rules.specs.Bounds.{demand, slack, laxity}
+use Rattle.rules.specs.Bounds.{roundedUp, demand, slack, laxity}
 use Rattle.rules.specs.Answers.{readTick, readRun}
 use Rattle.rules.specs.declared.Head.{Head}
 use Rattle.rules.specs.declared.Job.{Job}
@@ -151,3 +151,12 @@ Negative z = nonNeg z ≡ false
 abbrev pub NegativeExactly : Type 0
 NegativeExactly = (bytes : List ℕ) (sheet : Sheet) → readSheet bytes ≡ read sheet → (i : ℕ) → i < length (sheet .tasks)
     → Negative (laxity sheet i) ↔ ((t : ℕ) → Point sheet i t → t < demand sheet i t)
+
+-- n periods reach t, and no fewer do.
+pub record LeastThatReaches (t period n : ℕ) : Type 0 where
+  pub reaches : t ≤ n * period
+  pub least : (q : ℕ) → t ≤ q * period → n ≤ q
+
+-- t over a period of at least 1, rounded up, is the least number of periods that reaches t, whatever way it is computed.
+abbrev pub RoundedUp : Type 0
+RoundedUp = (t period : ℕ) → 1 ≤ period → LeastThatReaches t period (roundedUp t period)
