@@ -1,18 +1,19 @@
--- Laws of slacks: of a difference of two numbers, of the larger of two, of the largest of many.
+-- Laws of slacks: of a difference of two numbers, of their order, of the larger of two, of the largest of many.
 use Prim.Native.Nat.{ℕ, zero, suc, _+_, _-_, _≤_, _<_, max}
 use mathlib.Core.Path.{_≡_, refl, sym, ap, ap₂, _∙_, subst}
 use mathlib.Core.Logic.{⊎-elim}
-use mathlib.Core.Bool.{Bool, true, false}
+use mathlib.Core.Bool.{true, false}
 use native.Mathlib.Omega.{arith}
 use native.Mathlib.Numerals.{add-one}
 use lib.Dec.{leb}
 use lib.IntN.{ℤ, pos, negsuc, _-ℤ_}
 use lib.Signed.{leZ}
 use borrow.Author.Tests.{lt-ltb, le-ltb, le-leb, lt-leb}
-use Rattle.rules.specs.Words.{if_then_else_}
 use Rattle.rules.specs.Bounds.{larger, largestOf}
 use Rattle.rules.specs.Answers.{signed}
+use Rattle.rules.specs.Laws.{_≼_}
 use Rattle.rules.proofs.Laws.{below}
+use Rattle.rules.proofs.Points.{largest-has}
 use Rattle.analysis.specs.Laxity.{raise, lowered}
 
 -- a difference by its sign
@@ -82,88 +83,41 @@ module _ (f : ℕ → ℤ) (first : ℤ) where
   pub largestOf-end : (m n best : ℕ) → n ≤ m → m ≤ n → lowered best ≡ largestOf n first f → lowered best ≡ largestOf m first f
   largestOf-end m n best l k e = e ∙ ap (λ (x : ℕ). largestOf x first f) (let z : n ≡ m = omega arith in z)
 
--- at least -m, and at most m
-abbrev pub AtLeast : (m : ℕ) → ℤ → Type 0
-AtLeast m (pos n) = Unit {0}
-AtLeast m (negsuc n) = n < m
+-- the order
+pub ≼-antisym : (x y : ℤ) → x ≼ y → y ≼ x → x ≡ y
+≼-antisym (pos a) (pos b) p q = ap pos (omega arith)
+≼-antisym (pos a) (negsuc b) p q = absurd p
+≼-antisym (negsuc a) (pos b) p q = absurd q
+≼-antisym (negsuc a) (negsuc b) p q = ap negsuc (omega arith)
 
-abbrev pub AtMost : (m : ℕ) → ℤ → Type 0
-AtMost m (pos n) = n ≤ m
-AtMost m (negsuc n) = Unit {0}
+-- the largest of many is at most what each is at most
+pub largest-at-most : (first : ℤ) (f : ℕ → ℤ) (z : ℤ) (n : ℕ) → first ≼ z → ((j : ℕ) → j < n → f j ≼ z) → largestOf n first f ≼ z
+largest-at-most first f z n p h = largest-has first f (λ w. w ≼ z) n p h
 
--- the larger of two is one of them, and at least each
+-- a slack, and what is raised: at least -m - 1, and at most m
 module _ (m : ℕ) where
-  larger-left : (x y : ℤ) → AtLeast m x → AtLeast m (larger x y)
-  unfolding larger
-  larger-left (pos a) (pos b) p = go (leb a b)
-    where
-      go : (c : Bool) → AtLeast m (if c then pos b else pos a)
-      go true = tt
-      go false = tt
-  larger-left (pos a) (negsuc b) p = tt
-  larger-left (negsuc a) (pos b) p = tt
-  larger-left (negsuc a) (negsuc b) p = ⊎-elim
-      (λ u. rw (lt-leb b a u) p)
-      (λ u. rw (le-leb b a u) (let l : b < m = omega arith in l))
-      (below a b)
-
-  larger-right : (x y : ℤ) → AtLeast m y → AtLeast m (larger x y)
-  unfolding larger
-  larger-right (pos a) (pos b) p = go (leb a b)
-    where
-      go : (c : Bool) → AtLeast m (if c then pos b else pos a)
-      go true = tt
-      go false = tt
-  larger-right (pos a) (negsuc b) p = tt
-  larger-right (negsuc a) (pos b) p = tt
-  larger-right (negsuc a) (negsuc b) p = ⊎-elim
-      (λ u. rw (lt-leb b a u) (let l : a < m = omega arith in l))
-      (λ u. rw (le-leb b a u) p)
-      (below a b)
-
-  larger-both : (x y : ℤ) → AtMost m x → AtMost m y → AtMost m (larger x y)
-  unfolding larger
-  larger-both x y p q = go (leZ x y)
-    where
-      go : (c : Bool) → AtMost m (if c then y else x)
-      go true = q
-      go false = p
-
-  pub largest-at-least : (n : ℕ) (first : ℤ) (f : ℕ → ℤ) (j : ℕ) → j < n → AtLeast m (f j) → AtLeast m (largestOf n first f)
-  unfolding largestOf
-  largest-at-least zero first f j l p = absurd (omega arith)
-  largest-at-least (suc n) first f j l p = ⊎-elim
-      (λ u. larger-left (largestOf n first f) (f n) (largest-at-least n first f j u p))
-      (λ u. larger-right (largestOf n first f) (f n) (subst (λ (x : ℕ). AtLeast m (f x)) (let z : j ≡ n = omega arith in z) p))
-      (below j n)
-
-  pub largest-at-most : (n : ℕ) (first : ℤ) (f : ℕ → ℤ) → AtMost m first → ((j : ℕ) → j < n → AtMost m (f j)) → AtMost m (largestOf n first f)
-  unfolding largestOf
-  largest-at-most zero first f p h = p
-  largest-at-most (suc n) first f p h = larger-both (largestOf n first f) (f n) (largest-at-most n first f p (λ j l. h j (omega arith))) (h n (omega arith))
-
-  pub slack-at-least : (t d : ℕ) → d ≤ t + m → AtLeast m (pos t -ℤ pos d)
+  pub slack-at-least : (t d : ℕ) → d ≤ t + m → negsuc m ≼ (pos t -ℤ pos d)
   slack-at-least t d l = ⊎-elim
-      (λ u. subst (AtLeast m) (sym (minus-lt t d u)) (let k : d - suc t < m = omega arith in k))
-      (λ u. subst (AtLeast m) (sym (minus-le t d u)) tt)
+      (λ u. subst (λ (z : ℤ). negsuc m ≼ z) (sym (minus-lt t d u)) (let k : d - suc t ≤ m = omega arith in k))
+      (λ u. subst (λ (z : ℤ). negsuc m ≼ z) (sym (minus-le t d u)) tt)
       (below t d)
 
-  pub slack-at-most : (t d : ℕ) → t ≤ m → AtMost m (pos t -ℤ pos d)
+  pub slack-at-most : (t d : ℕ) → t ≤ m → (pos t -ℤ pos d) ≼ pos m
   slack-at-most t d l = ⊎-elim
-      (λ u. subst (AtMost m) (sym (minus-lt t d u)) tt)
-      (λ u. subst (AtMost m) (sym (minus-le t d u)) (let k : t - d ≤ m = omega arith in k))
+      (λ u. subst (λ (z : ℤ). z ≼ pos m) (sym (minus-lt t d u)) tt)
+      (λ u. subst (λ (z : ℤ). z ≼ pos m) (sym (minus-le t d u)) (let k : t - d ≤ m = omega arith in k))
       (below t d)
 
-  pub lowered-at-least : (v : ℕ) → AtLeast m (lowered v) → raise ≤ v + m
+  pub lowered-at-least : (v : ℕ) → negsuc m ≼ lowered v → raise ≤ v + m + 1
   unfolding lowered
   lowered-at-least v p = ⊎-elim
-      (λ u. let k : raise - suc v < m = subst (AtLeast m) (minus-lt v raise u) p in omega arith)
+      (λ u. let k : raise - suc v ≤ m = subst (λ (z : ℤ). negsuc m ≼ z) (minus-lt v raise u) p in omega arith)
       (λ u. omega arith)
       (below v raise)
 
-  pub lowered-at-most : (v : ℕ) → AtMost m (lowered v) → v ≤ raise + m
+  pub lowered-at-most : (v : ℕ) → lowered v ≼ pos m → v ≤ raise + m
   unfolding lowered
   lowered-at-most v p = ⊎-elim
       (λ u. omega arith)
-      (λ u. let k : v - raise ≤ m = subst (AtMost m) (minus-le v raise u) p in omega arith)
+      (λ u. let k : v - raise ≤ m = subst (λ (z : ℤ). z ≼ pos m) (minus-le v raise u) p in omega arith)
       (below v raise)

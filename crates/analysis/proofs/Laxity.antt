@@ -8,7 +8,7 @@ use native.Mathlib.Omega.{arith}
 use native.Mathlib.Numerals.{add-one}
 use native.Mathlib.Nat.{mul-le-mul, mul-one, div-le-self, le-div-iff-mul-le}
 use lib.ListN.{length, getD}
-use lib.IntN.{pos, _-ℤ_}
+use lib.IntN.{ℤ, pos, negsuc, _-ℤ_}
 use borrow.Author.Tests.{lt-ltb, le-ltb, eq-eqb, ne-eqb}
 use mir.Val.{Fits}
 use mir.Syntax.{w16, w32, w64}
@@ -24,9 +24,10 @@ use Rattle.table.proofs.Laws.{task-at, tasks-count}
 use Rattle.analysis.specs.Laxity.{demandOf, demandFrom, slackFrom, pointFrom, largestFrom, laxityFrom, laxitiesFrom, Periods, raise, lowered}
 use Rattle.analysis.proofs.Laws.{Filled, filled-ranks, ranked, total-le}
 use Rattle.analysis.proofs.Bounds.{limits}
-use Rattle.analysis.proofs.Integers.{AtLeast, AtMost, lowered-slack, largest-at-least, largest-at-most, slack-at-least, slack-at-most, lowered-at-least, lowered-at-most}
+use Rattle.rules.specs.Laws.{_≼_}
+use Rattle.rules.proofs.Points.{largestOf-same, ≼-trans, largest-at-least}
+use Rattle.analysis.proofs.Integers.{lowered-slack, largest-at-most, slack-at-least, slack-at-most, lowered-at-least, lowered-at-most}
 use Rattle.rules.proofs.Rounding.{roundedUp-least}
-use Rattle.rules.proofs.Points.{largestOf-same}
 
 -- the two ways out of rounding up: nothing is left, or one more
 module _ (t p : ℕ) (l : t < 65536) where
@@ -90,11 +91,18 @@ module _ (costs periods : List ℕ) (b i : ℕ) (π : Periods (i + 1) periods) w
   last = getD periods i 0
 
   -- the points of a rank lie in task i's period
-  points : (k l : ℕ) → k ≤ i → (l ≤ last / getD periods k 0) ↔ (l * getD periods k 0 ≤ last)
+  pub points : (k l : ℕ) → k ≤ i → (l ≤ last / getD periods k 0) ↔ (l * getD periods k 0 ≤ last)
   points k l m = le-div-iff-mul-le {k = getD periods k 0} {x = l} {y = last} (π .from k (omega arith))
 
-  point-in : (k l : ℕ) → k ≤ i → l < last / getD periods k 0 → (l + 1) * getD periods k 0 ≤ last
+  pub point-in : (k l : ℕ) → k ≤ i → l < last / getD periods k 0 → (l + 1) * getD periods k 0 ≤ last
   point-in k l m n = points k (l + 1) m .0 (omega arith)
+
+  -- and none of them has a slack above the laxity
+  point-at-most : (k l : ℕ) → k ≤ i → l < last / getD periods k 0 → slackFrom costs periods b i ((l + 1) * getD periods k 0) ≼ laxityFrom costs periods b i
+  unfolding laxityFrom largestFrom pointFrom
+  point-at-most k l m n = ≼-trans (pointFrom costs periods b i k l) (largestFrom costs periods b i k) (laxityFrom costs periods b i)
+      (largest-at-least _ (pointFrom costs periods b i k) (last / getD periods k 0) l n)
+      (largest-at-least _ (largestFrom costs periods b i) (i + 1) k (omega arith))
 
   module _ (k l : ℕ) (m : k ≤ i) (n : l < last / getD periods k 0) (f : Fits w16 last) where
     pub point-below : (l + 1) * getD periods k 0 < 65536
@@ -109,15 +117,15 @@ module _ (costs periods : List ℕ) (b i : ℕ) (π : Periods (i + 1) periods) w
   -- rows of 16-bit numbers
   module _ (fc : (r : ℕ) → Fits w16 (getD costs r 0)) (fp : (r : ℕ) → Fits w16 (getD periods r 0)) (fb : Fits w16 b) where
     -- no slack is above task i's period
-    slack-most : (t : ℕ) → t ≤ last → AtMost 65536 (slackFrom costs periods b i t)
+    slack-most : (t : ℕ) → t ≤ last → slackFrom costs periods b i t ≼ pos 65536
     unfolding slackFrom
     slack-most t l = slack-at-most 65536 t (demandFrom costs periods b i t) (omega (arith, fp i .fits))
 
-    most : AtMost 65536 (laxityFrom costs periods b i)
+    most : laxityFrom costs periods b i ≼ pos 65536
     unfolding laxityFrom largestFrom pointFrom
     most =
         let first = slack-most last (omega arith) in
-        largest-at-most 65536 (i + 1) _ _ first (λ k m. largest-at-most 65536 _ _ _ first (λ l n. slack-most ((l + 1) * getD periods k 0) (point-in k l (omega arith) n)))
+        largest-at-most _ _ (pos 65536) (i + 1) first (λ k m. largest-at-most _ _ (pos 65536) _ first (λ l n. slack-most ((l + 1) * getD periods k 0) (point-in k l (omega arith) n)))
 
     -- up to the smallest period each rank demands its C once: with the bound at most 17 times 2 ^ 16
     demand-small : (p : ℕ) → 1 ≤ p → ((r : ℕ) → r < i + 1 → p ≤ getD periods r 0) → demandFrom costs periods b i p ≤ 1_114_112
@@ -126,17 +134,16 @@ module _ (costs periods : List ℕ) (b i : ℕ) (π : Periods (i + 1) periods) w
         let few = total-le (i + 1) (demandOf costs periods p) 65536 (λ r m. omega (arith, once costs periods p r l (h r m), fc r .fits)) in
         omega (arith, π .few, fb .fits)
 
-    least-at : (k : ℕ) → k < i + 1 → ((r : ℕ) → r < i + 1 → getD periods k 0 ≤ getD periods r 0) → AtLeast 1_114_112 (laxityFrom costs periods b i)
-    unfolding laxityFrom largestFrom pointFrom slackFrom
+    least-at : (k : ℕ) → k < i + 1 → ((r : ℕ) → r < i + 1 → getD periods k 0 ≤ getD periods r 0) → negsuc 1_114_112 ≼ laxityFrom costs periods b i
+    unfolding slackFrom
     least-at k m h =
         let p = getD periods k 0 in
-        let first : (0 + 1) * p ≡ p = omega arith in
-        largest-at-least 1_114_112 (i + 1) _ _ k m
-        (largest-at-least 1_114_112 (last / p) _ _ 0 (points k 1 (omega arith) .1 (omega (arith, h i (omega arith))))
-        (subst (λ (t : ℕ). AtLeast 1_114_112 (slackFrom costs periods b i t)) (sym first)
-        (slack-at-least 1_114_112 p (demandFrom costs periods b i p) (omega (arith, demand-small p (π .from k m) h)))))
+        let once-there = slack-at-least 1_114_112 p (demandFrom costs periods b i p) (omega (arith, demand-small p (π .from k m) h)) in
+        ≼-trans (negsuc 1_114_112) (slackFrom costs periods b i ((0 + 1) * p)) (laxityFrom costs periods b i)
+        (subst (λ (t : ℕ). negsuc 1_114_112 ≼ slackFrom costs periods b i t) (let z : p ≡ (0 + 1) * p = omega arith in z) once-there)
+        (point-at-most k 0 (omega arith) (points k 1 (omega arith) .1 (omega (arith, h i (omega arith)))))
 
-    least : AtLeast 1_114_112 (laxityFrom costs periods b i)
+    least : negsuc 1_114_112 ≼ laxityFrom costs periods b i
     least = ⊎-elim
         (λ w. least-at (w .0) (w .1) (λ r m. w .3 r m refl))
         (λ h. true-false true refl (h i (omega arith)))
@@ -145,8 +152,8 @@ module _ (costs periods : List ℕ) (b i : ℕ) (π : Periods (i + 1) periods) w
     -- so its size has 32 bits
     pub laxity-near : (v : ℕ) → lowered v ≡ laxityFrom costs periods b i → (raise ≤ v + 4_294_967_295) × (v ≤ raise + 4_294_967_295)
     laxity-near v e =
-        let l = lowered-at-least 1_114_112 v (subst (AtLeast 1_114_112) (sym e) least) in
-        let m = lowered-at-most 65536 v (subst (AtMost 65536) (sym e) most) in
+        let l = lowered-at-least 1_114_112 v (subst (λ (z : ℤ). negsuc 1_114_112 ≼ z) (sym e) least) in
+        let m = lowered-at-most 65536 v (subst (λ (z : ℤ). z ≼ pos 65536) (sym e) most) in
         (omega arith, omega arith)
 
 -- the laxities of the first n ranks

@@ -2,3 +2,4 @@ pub mod Laws
 pub mod Bounds
 pub mod Integers
 pub mod Laxity
+pub mod Counted

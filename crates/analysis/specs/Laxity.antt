@@ -1,10 +1,11 @@
 -- The laxity by the rows of C and of periods and a bound: document 01's, of rows that need not be a sheet's.
 -- Of a sheet's own it is the sheet's laxity (proofs/Laxity.antt, laxity-of-sheet).
-use Prim.Native.Nat.{ℕ, _+_, _*_, _/_, _≤_, _<_}
+use Prim.Native.Nat.{ℕ, _+_, _*_, _/_, _%_, _≤_, _<_}
 use mathlib.Core.List.{List}
+use mathlib.Core.Bool.{Bool, _&&_, _||_}
 use lib.ListN.{getD}
 use lib.IntN.{ℤ, pos, _-ℤ_}
-use Rattle.rules.specs.Words.{if_then_else_, _<?_, row, total}
+use Rattle.rules.specs.Words.{if_then_else_, _<?_, _=?_, some, row, total}
 use Rattle.rules.specs.Bounds.{roundedUp, largestOf}
 use Rattle.rules.specs.Answers.{signed}
 use Rattle.rules.specs.declared.Laxity.{Laxity}
@@ -12,6 +13,13 @@ use Rattle.rules.specs.declared.Laxity.{Laxity}
 -- C of r times (t over r's period, rounded up).
 unfoldable pub demandOf : (costs periods : List ℕ) (t r : ℕ) → ℕ
 demandOf costs periods t r = getD costs r 0 * roundedUp t (getD periods r 0)
+
+-- Task j has the points of task k: its period divides k's. Of tasks with the same period the first has them.
+unfoldable pub hasPointsOf : (periods : List ℕ) (k j : ℕ) → Bool
+hasPointsOf periods k j = getD periods k 0 % getD periods j 0 =? 0 && (j <? k || getD periods j 0 <? getD periods k 0)
+
+unfoldable pub anotherHas : (periods : List ℕ) (i k : ℕ) → Bool
+anotherHas periods i k = some (i + 1) (hasPointsOf periods k)
 
 module _ (costs periods : List ℕ) (b i : ℕ) where
   unfoldable pub demandFrom : (t : ℕ) → ℕ
@@ -26,6 +34,10 @@ module _ (costs periods : List ℕ) (b i : ℕ) where
 
   unfoldable pub largestFrom : (k : ℕ) → ℤ
   largestFrom k = largestOf (getD periods i 0 / getD periods k 0) (slackFrom (getD periods i 0)) (pointFrom k)
+
+  -- The same with no points where another task up to i has them: they add nothing (proofs/Counted.antt).
+  unfoldable pub countedFrom : (k : ℕ) → ℤ
+  countedFrom k = if anotherHas periods i k then slackFrom (getD periods i 0) else largestFrom k
 
   unfoldable pub laxityFrom : ℤ
   laxityFrom = largestOf (i + 1) (slackFrom (getD periods i 0)) largestFrom

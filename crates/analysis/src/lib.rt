@@ -18,6 +18,7 @@ ghost use Rattle.table.specs.Table.{entryOf, taskOf, sheetOf, Tabled};
 ghost use Rattle.table.specs.Steps.{hereIs};
 ghost use Rattle.analysis.specs.Steps.{isUnlockOf, atMost, Sound};
 ghost use Rattle.analysis.specs.Laxity.{demandFrom, slackFrom, largestFrom, laxityFrom, laxitiesFrom, Periods, raise, lowered};
+ghost use Rattle.analysis.specs.Laxity.{hasPointsOf, anotherHas, countedFrom};
 
 // The larger of two.
 fn larger(a: u64, b: u64) -> u64
@@ -243,6 +244,52 @@ fn largest_of_rank(
     best
 }
 
+// Does task j have the points of task k? Its period divides k's; of tasks with the same period the first has them.
+fn has_points_of(periods: [u16; 16], k: usize, j: usize) -> bool
+    requires { ⌜ (k < 16) × (j < 16) × (1 ≤ getD periods k 0) × (1 ≤ getD periods j 0) ⌝ }
+    ensures { λ r. ⌜ r ≡ hasPointsOf periods k j ⌝ }
+{
+    let period = periods[k];
+    let other = periods[j];
+    if period % other == 0 {
+        return j < k || other < period;
+    }
+    false
+}
+
+// Does another task up to i have the points of task k?
+fn another_has(periods: [u16; 16], i: usize, k: usize) -> bool
+    requires { ⌜ Periods (i + 1) periods × (k ≤ i) ⌝ }
+    ensures { λ r. ⌜ r ≡ anotherHas periods i k ⌝ }
+{
+    let mut j: usize = 0;
+    while j <= i {
+        if has_points_of(periods, k, j) {
+            return true;
+        }
+        j += 1;
+    }
+    false
+}
+
+// The largest slack at the points of task k, where no other has them, and at task i's period.
+fn counted_of_rank(
+    costs: [u16; 16],
+    periods: [u16; 16],
+    b: u16,
+    i: usize,
+    k: usize,
+    first: u64,
+) -> u64
+    requires { ⌜ Periods (i + 1) periods × (k ≤ i) × (lowered first ≡ slackFrom costs periods b i (getD periods i 0)) ⌝ }
+    ensures { λ r. ⌜ lowered r ≡ countedFrom costs periods b i k ⌝ }
+{
+    if another_has(periods, i, k) {
+        return first;
+    }
+    largest_of_rank(costs, periods, b, i, k, first)
+}
+
 // The largest over the points of each task up to i.
 fn largest_slack(costs: [u16; 16], periods: [u16; 16], b: u16, i: usize) -> u64
     requires { ⌜ Periods (i + 1) periods ⌝ }
@@ -253,7 +300,7 @@ fn largest_slack(costs: [u16; 16], periods: [u16; 16], b: u16, i: usize) -> u64
     let mut best = first;
     let mut k: usize = 0;
     while k <= i {
-        let more = largest_of_rank(costs, periods, b, i, k, first);
+        let more = counted_of_rank(costs, periods, b, i, k, first);
         best = larger(best, more);
         k += 1;
     }

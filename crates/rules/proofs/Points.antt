@@ -43,6 +43,10 @@ largestOf-same zero a b f g e h = e
 largestOf-same (suc n) a b f g e h = ap₂ larger (largestOf-same n a b f g e (λ i l. h i (omega arith))) (h n (omega arith))
 
 -- the order
+≼-refl : (x : ℤ) → x ≼ x
+≼-refl (pos a) = omega arith
+≼-refl (negsuc a) = omega arith
+
 pub ≼-trans : (x y z : ℤ) → x ≼ y → y ≼ z → x ≼ z
 ≼-trans (pos a) (pos b) (pos c) p q = omega arith
 ≼-trans (pos a) (pos b) (negsuc c) p q = q
@@ -69,6 +73,11 @@ larger-right (negsuc a) (negsuc b) = ⊎-elim (λ u. rw (lt-leb b a u) (omega ar
 
 -- so is the largest of many, and what holds of each of them holds of it
 module _ (first : ℤ) (f : ℕ → ℤ) where
+  pub largest-first : (n : ℕ) → first ≼ largestOf n first f
+  unfolding largestOf
+  largest-first zero = ≼-refl first
+  largest-first (suc n) = ≼-trans first (largestOf n first f) _ (largest-first n) (larger-left (largestOf n first f) (f n))
+
   pub largest-at-least : (n j : ℕ) → j < n → f j ≼ largestOf n first f
   unfolding largestOf
   largest-at-least zero j l = absurd (omega arith)

@@ -1,20 +1,21 @@
 -- Rank by rank up to i, the largest slack at the points so far; at the end it is the laxity, raised.
 use Prim.Native.Nat.{_+_, _-_, _≤_}
-use mathlib.Core.Path.{_≡_}
+use mathlib.Core.Path.{_≡_, _∙_}
 use native.Mathlib.Omega.{arith}
 use borrow.Author.Needs.{needs}
 use mir.Val.{Fits}
 use mir.Syntax.{w16}
 use lib.ListN.{getD}
 use Rattle.rules.specs.Bounds.{largestOf}
-use Rattle.analysis.specs.Laxity.{slackFrom, largestFrom, laxityFrom, lowered}
+use Rattle.analysis.specs.Laxity.{slackFrom, countedFrom, lowered}
 use Rattle.analysis.proofs.Integers.{largestOf-begin, largestOf-turn, largestOf-end}
+use Rattle.analysis.proofs.Counted.{counted-all}
 use Rattle.analysis.proofs.largest_slack.Statement.{statement}
 use Rattle.analysis.proofs.largest_slack.Tie as tie
 
--- the largest over the points of the ranks before k
+-- the largest over the points of the ranks before k, where no other has them
 abbrev Inv-loop : tie.InvT-loop
-Inv-loop costs b i periods last first best₀ k₀ best k = (k ≤ i + 1) × (lowered best ≡ largestOf k (slackFrom costs periods b i (getD periods i 0)) (largestFrom costs periods b i))
+Inv-loop costs b i periods last first best₀ k₀ best k = (k ≤ i + 1) × (lowered best ≡ largestOf k (slackFrom costs periods b i (getD periods i 0)) (countedFrom costs periods b i))
 
 abbrev μ-loop : tie.MeasureT-loop
 μ-loop costs b i periods last first best₀ k₀ best k = i + 1 - k
@@ -36,8 +37,8 @@ slack-at-requires c κs =
 loop-holds : tie.Need-loop-holds Inv-loop μ-loop
 loop-holds c = (search needs, search largestOf-begin)
 
-largest-of-rank-requires : tie.Need-largest-of-rank-requires Inv-loop μ-loop
-largest-of-rank-requires c κs = search needs
+counted-of-rank-requires : tie.Need-counted-of-rank-requires Inv-loop μ-loop
+counted-of-rank-requires c κs = search needs
 
 larger-requires : tie.Need-larger-requires Inv-loop μ-loop
 larger-requires c κs = search needs
@@ -52,8 +53,7 @@ loop-again : tie.Need-loop-again Inv-loop μ-loop
 loop-again c = (search needs, search largestOf-turn)
 
 returns : tie.Need-returns Inv-loop μ-loop
-unfolding laxityFrom
-returns c = largestOf-end _ _ _ _ _ (c .before .loop .inv .0) (omega arith) (c .before .loop .inv .1)
+returns c = largestOf-end _ _ _ _ _ (c .before .loop .inv .0) (omega arith) (c .before .loop .inv .1) ∙ counted-all _ _ _ _ (c .before .before .before .pre)
 
 pub largest-slack-spec : {M : Type 1} → statement M
 largest-slack-spec =
@@ -66,7 +66,7 @@ largest-slack-spec =
     cast-last
     slack-at-requires
     loop-holds
-    largest-of-rank-requires
+    counted-of-rank-requires
     larger-requires
     add-k
     loop-less
