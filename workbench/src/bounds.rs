@@ -1,4 +1,6 @@
-//! Ceilings, blocking bounds and laxities.
+//! Ceilings, blocking bounds with the sections behind them, and laxities.
+
+use std::fmt;
 
 use crate::sheet::{Sheet, Step, Task};
 use crate::{wrong, SIXTEEN};
@@ -20,52 +22,126 @@ pub fn ceilings(sheet: &Sheet) -> [u8; SIXTEEN] {
     ceilings
 }
 
-/// The bound B of every task, by rank.
-pub fn bounds(sheet: &Sheet) -> Vec<u32> {
-    let ceilings = ceilings(sheet);
-    let mut bounds = vec![0; sheet.tasks.len()];
-    for (rank, task) in sheet.tasks.iter().enumerate() {
-        for section in sections(task) {
-            let ceiling = ceilings[usize::from(section.semaphore)];
-            let first = usize::from(ceiling) + usize::from(wrong::BOUND_BELOW);
-            // A section reaches the ranks from its ceiling to its own task's.
-            for bound in bounds.iter_mut().take(rank).skip(first) {
-                *bound = section.length.max(*bound);
-            }
-        }
+/// The section behind a bound: its task's rank and the step of its lock.
+#[derive(Clone, Copy, Debug, PartialEq, Eq)]
+pub struct Place {
+    pub rank: u8,
+    pub step: u8,
+}
+
+impl fmt::Display for Place {
+    fn fmt(&self, f: &mut fmt::Formatter<'_>) -> fmt::Result {
+        write!(f, "{}/{}", self.rank, self.step)
     }
-    bounds
+}
+
+/// A bound B, and the section that gives it if there is one.
+#[derive(Clone, Copy, Debug, Default, PartialEq, Eq)]
+pub struct Bound {
+    pub length: u32,
+    pub by: Option<Place>,
+}
+
+/// The bound B of every task, by rank.
+pub fn bounds(sheet: &Sheet) -> Vec<Bound> {
+    let ceilings = ceilings(sheet);
+    let sections: Vec<Section> = sheet
+        .tasks
+        .iter()
+        .enumerate()
+        .flat_map(|(rank, task)| sections(rank, task, &ceilings))
+        .collect();
+    (0..sheet.tasks.len())
+        .map(|rank| bound(rank, &sections))
+        .collect()
+}
+
+/// The bound of one task; `sections` go by rank, and by lock step in a task.
+fn bound(rank: usize, sections: &[Section]) -> Bound {
+    let of_ranks_from = |first| {
+        let lower = sections.iter().filter(move |section| section.rank >= first);
+        lower.filter(|section| section.reaches(rank))
+    };
+    let lengths = of_ranks_from(rank + 1).map(|section| section.length);
+    let named = of_ranks_from(rank + usize::from(!wrong::BY_OWN)).reduce(|best, next| {
+        if next.outdoes(best) {
+            next
+        } else {
+            best
+        }
+    });
+    Bound {
+        length: lengths.max().unwrap_or(0),
+        by: named.map(Section::place),
+    }
 }
 
 struct Section {
-    semaphore: u8,
+    rank: usize,
+    /// Index of its lock.
+    step: usize,
+    /// Inside another section.
+    inner: bool,
+    /// That of its semaphore.
+    ceiling: usize,
     length: u32,
 }
 
-/// All sections of a task, inner ones before those around them.
-fn sections(task: &Task) -> Vec<Section> {
-    let mut closed = Vec::new();
-    let mut open: Vec<Section> = Vec::new();
-    for step in &task.steps {
+impl Section {
+    /// Whether its ceiling lets it keep a task of that rank waiting.
+    fn reaches(&self, rank: usize) -> bool {
+        let left_out = wrong::BOUND_OUTERMOST && self.inner;
+        self.ceiling + usize::from(wrong::BOUND_BELOW) <= rank && !left_out
+    }
+
+    /// Whether it is named rather than `best`, which comes before it.
+    fn outdoes(&self, best: &Section) -> bool {
+        if self.length != best.length {
+            return self.length > best.length && !wrong::BY_FIRST;
+        }
+        if self.rank == best.rank {
+            wrong::BY_LATER_STEP
+        } else {
+            wrong::BY_LARGER_RANK
+        }
+    }
+
+    fn place(&self) -> Place {
+        Place {
+            rank: self.rank as u8,
+            step: self.step as u8,
+        }
+    }
+}
+
+/// All sections of a task, by lock step.
+fn sections(rank: usize, task: &Task, ceilings: &[u8; SIXTEEN]) -> Vec<Section> {
+    let mut sections: Vec<Section> = Vec::new();
+    // Those not yet unlocked, outermost first.
+    let mut open: Vec<usize> = Vec::new();
+    for (index, step) in task.steps.iter().enumerate() {
         match step {
             Step::Run(length) => {
-                for section in &mut open {
-                    section.length += u32::from(*length);
+                for section in &open {
+                    sections[*section].length += u32::from(*length);
                 }
             }
-            Step::Lock(semaphore) => open.push(Section {
-                semaphore: *semaphore,
-                length: 0,
-            }),
+            Step::Lock(semaphore) => {
+                sections.push(Section {
+                    rank,
+                    step: index,
+                    inner: !open.is_empty(),
+                    ceiling: usize::from(ceilings[usize::from(*semaphore)]),
+                    length: 0,
+                });
+                open.push(sections.len() - 1);
+            }
             Step::Unlock(_) => {
-                let section = open.pop();
-                if !wrong::BOUND_OUTERMOST || open.is_empty() {
-                    closed.extend(section);
-                }
+                open.pop();
             }
         }
     }
-    closed
+    sections
 }
 
 /// C: the sum of a task's runs.
@@ -79,12 +155,22 @@ fn whole_length(task: &Task) -> i64 {
         .sum()
 }
 
+/// A laxity, and the section behind the bound in it.
+#[derive(Clone, Copy, Debug, PartialEq, Eq)]
+pub struct Laxity {
+    pub ticks: i64,
+    pub by: Option<Place>,
+}
+
 /// The laxity of every task, by rank.
-pub fn laxities(sheet: &Sheet) -> Vec<i64> {
+pub fn laxities(sheet: &Sheet) -> Vec<Laxity> {
     bounds(sheet)
         .into_iter()
         .enumerate()
-        .map(|(rank, bound)| laxity(&sheet.tasks[..=rank], i64::from(bound)))
+        .map(|(rank, bound)| Laxity {
+            ticks: laxity(&sheet.tasks[..=rank], i64::from(bound.length)),
+            by: bound.by,
+        })
         .collect()
 }
 

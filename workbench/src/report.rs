@@ -2,7 +2,7 @@
 
 use std::fmt::Write;
 
-use crate::bounds::{bounds, ceilings, laxities};
+use crate::bounds::{bounds, ceilings, laxities, Place};
 use crate::record::{Record, IDLE, RECORD_BYTES, STUCK};
 use crate::refusal::Refusal;
 use crate::run::{whole_run, Run};
@@ -38,15 +38,21 @@ fn write_counts(text: &mut String, sheet: &Sheet, record: &Record) {
     );
     let analysis = bounds(sheet).into_iter().zip(laxities(sheet));
     for ((rank, task), (bound, laxity)) in record.tasks.iter().enumerate().zip(analysis) {
+        let (length, ticks, by) = (bound.length, laxity.ticks, name(laxity.by));
         line(
             text,
             format_args!(
                 "{rank} releases {} done {} missed {} ran {} blocked {} worst {} \
-                 bound {bound} laxity {laxity}",
+                 bound {length} laxity {ticks} by {by}",
                 task.releases, task.completions, task.misses, task.ran, task.blocked, task.worst
             ),
         );
     }
+}
+
+/// The section behind a bound as its rank and step, or `-` if there is none.
+fn name(by: Option<Place>) -> String {
+    by.map_or("-".to_string(), |place| place.to_string())
 }
 
 fn write_trace(text: &mut String, trace: &[u8]) {
@@ -136,9 +142,9 @@ pub fn called(input: &[u8]) -> String {
     let mut text = String::new();
     match call {
         1 => check(&mut text, sheet),
-        2 => row_of(&mut text, "ceilings", sheet.map(|sheet| ceilings(&sheet))),
-        3 => row_of(&mut text, "bounds", sheet.map(|sheet| bounds(&sheet))),
-        4 => row_of(&mut text, "laxities", sheet.map(|sheet| laxities(&sheet))),
+        2 => write_ceilings(&mut text, sheet),
+        3 => write_bounds(&mut text, sheet),
+        4 => write_laxities(&mut text, sheet),
         5 => run_into(&mut text, sheet, first, room),
         6 => write_record(&mut text, &Record::start()),
         _ => line(&mut text, format_args!("no such call")),
@@ -166,17 +172,34 @@ fn check(text: &mut String, sheet: Result<Sheet, Refusal>) {
     );
 }
 
-/// Sixteen numbers, zeros behind those that there are.
-fn row_of<N: Into<i64>, R: IntoIterator<Item = N>>(
-    text: &mut String,
-    name: &str,
-    values: Result<R, Refusal>,
-) {
-    let values = values.map(|row| row.into_iter().map(N::into).collect());
-    let values: Vec<i64> = or_refused(text, values, Vec::new());
-    text.push_str(name);
-    for index in 0..SIXTEEN {
-        write_number(text, values.get(index).copied().unwrap_or(0));
+fn write_ceilings(text: &mut String, sheet: Result<Sheet, Refusal>) {
+    let ceilings = sheet.map(|sheet| ceilings(&sheet));
+    let ceilings = or_refused(text, ceilings, [0; SIXTEEN]);
+    write_row(text, "ceilings", ceilings.iter().map(u8::to_string), "0");
+}
+
+fn write_bounds(text: &mut String, sheet: Result<Sheet, Refusal>) {
+    let bounds = or_refused(text, sheet.map(|sheet| bounds(&sheet)), Vec::new());
+    let lengths = bounds.iter().map(|bound| bound.length.to_string());
+    write_row(text, "bounds", lengths, "0");
+    write_row(text, "by", bounds.iter().map(|bound| name(bound.by)), "-");
+}
+
+fn write_laxities(text: &mut String, sheet: Result<Sheet, Refusal>) {
+    let laxities = or_refused(text, sheet.map(|sheet| laxities(&sheet)), Vec::new());
+    let ticks = laxities.iter().map(|laxity| laxity.ticks.to_string());
+    write_row(text, "laxities", ticks, "0");
+    let names = laxities.iter().map(|laxity| name(laxity.by));
+    write_row(text, "by", names, "-");
+}
+
+/// Sixteen words behind a title; `none` where there are no more.
+fn write_row(text: &mut String, title: &str, words: impl Iterator<Item = String>, none: &str) {
+    text.push_str(title);
+    let rest = std::iter::repeat(none.to_string());
+    for word in words.chain(rest).take(SIXTEEN) {
+        text.push(' ');
+        text.push_str(&word);
     }
     text.push('\n');
 }
@@ -193,14 +216,10 @@ fn run_into(text: &mut String, sheet: Result<Sheet, Refusal>, horizon: u16, room
     write_record(text, &record);
     text.push_str("buffer");
     for byte in buffer {
-        write_number(text, i64::from(byte));
+        // Writing to a string cannot fail.
+        let _ = write!(text, " {byte}");
     }
     text.push('\n');
-}
-
-fn write_number(text: &mut String, number: i64) {
-    // Writing to a string cannot fail.
-    let _ = write!(text, " {number}");
 }
 
 fn write_record(text: &mut String, record: &Record) {

@@ -57,3 +57,11 @@ pub const REFUSED_RUN: bool = cfg!(feature = "wrong-refused-run");
 pub const REFUSED_RECORD: bool = cfg!(feature = "wrong-refused-record");
 /// The tick in place leaves the record as it was.
 pub const IN_PLACE: bool = cfg!(feature = "wrong-in-place");
+/// Of sections of equal length, that of the largest rank is named.
+pub const BY_LARGER_RANK: bool = cfg!(feature = "wrong-by-larger-rank");
+/// Of sections of equal length in one task, the last is named.
+pub const BY_LATER_STEP: bool = cfg!(feature = "wrong-by-later-step");
+/// A task's own sections may be named as behind its bound.
+pub const BY_OWN: bool = cfg!(feature = "wrong-by-own");
+/// The first section that counts is named, not the longest.
+pub const BY_FIRST: bool = cfg!(feature = "wrong-by-first");

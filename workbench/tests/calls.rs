@@ -62,10 +62,20 @@ fn case_b_bounds_and_laxities() {
         sharing(100, 6, 4),
     ];
     let sheet = Draft::new(1, 0, tasks).to_bytes();
-    let zeros = " 0".repeat(12);
-    assert_eq!(plain(3, &sheet), format!("bounds 0 4 4 0{zeros}\n"));
-    assert_eq!(plain(4, &sheet), format!("laxities 6 -1 2 8{zeros}\n"));
-    assert!(plain(4, &sheet[..60]).starts_with("refused 7 task 3 step 0\nlaxities 0 0 0 0 "));
+    let (zeros, none) = (" 0".repeat(12), " -".repeat(12));
+    let by = format!("by - 3/1 3/1 -{none}\n");
+    assert_eq!(plain(3, &sheet), format!("bounds 0 4 4 0{zeros}\n{by}"));
+    assert_eq!(plain(4, &sheet), format!("laxities 6 -1 2 8{zeros}\n{by}"));
+}
+
+#[test]
+fn refused_bounds_have_no_names() {
+    let sheet = &case_a(0).to_bytes()[..44];
+    let (zeros, none) = (" 0".repeat(16), " -".repeat(16));
+    for (call, title) in [(3, "bounds"), (4, "laxities")] {
+        let answer = format!("{CUT}{title}{zeros}\nby{none}\n");
+        assert_eq!(plain(call, sheet), answer);
+    }
 }
 
 #[test]

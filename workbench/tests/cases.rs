@@ -14,8 +14,8 @@ fn case_a_whole() {
     assert_eq!(
         second(&case_a(0).with_horizon(10)),
         "ticks 10 switches 6\n\
-         0 releases 1 done 1 missed 0 ran 2 blocked 2 worst 4 bound 3 laxity 5\n\
-         1 releases 1 done 1 missed 0 ran 5 blocked 0 worst 7 bound 0 laxity 11\n\
+         0 releases 1 done 1 missed 0 ran 2 blocked 2 worst 4 bound 3 laxity 5 by 1/1\n\
+         1 releases 1 done 1 missed 0 ran 5 blocked 0 worst 7 bound 0 laxity 11 by -\n\
          trace 1 1 0 1 1 0 1 - - -\n"
     );
 }
@@ -104,7 +104,8 @@ fn case_f_nothing_run() {
     assert_eq!(
         second(&case_a(0).with_horizon(0)),
         format!(
-            "ticks 0 switches 0\n0 {zero} bound 3 laxity 5\n1 {zero} bound 0 laxity 11\ntrace\n"
+            "ticks 0 switches 0\n0 {zero} bound 3 laxity 5 by 1/1\n\
+             1 {zero} bound 0 laxity 11 by -\ntrace\n"
         )
     );
 }

@@ -5,7 +5,7 @@ use std::path::{Path, PathBuf};
 use std::process::{Command, ExitCode, Stdio};
 use std::time::{Duration, Instant};
 
-use workbench::bounds::laxities;
+use workbench::bounds::{laxities, Laxity};
 use workbench::draft::{case_a, lock, run, unlock, Draft, DraftTask};
 use workbench::record::Record;
 use workbench::refusal::Refusal;
@@ -211,7 +211,7 @@ fn whole_program(name: &str, input: &[u8], options: &Options) -> io::Result<()> 
 
 fn laxity_time(draft: &Draft) {
     let sheet = read(draft);
-    let find = hidden(laxities as fn(&Sheet) -> Vec<i64>);
+    let find = hidden(laxities as fn(&Sheet) -> Vec<Laxity>);
     let time = best(|| {
         let _ = find(&sheet);
     });

@@ -8,7 +8,7 @@ use workbench::record::{Record, TaskRecord, IDLE, STUCK};
 use workbench::sheet::Sheet;
 
 use crate::chance::Chance;
-use crate::{damage, records, sheets};
+use crate::{damage, names, records, sheets};
 
 #[derive(Clone, Copy, PartialEq, Eq)]
 pub enum Kind {
@@ -55,7 +55,7 @@ const fn category(name: &'static str, kind: Kind, weight: usize, source: Source)
     }
 }
 
-pub const CATEGORIES: [Category; 29] = [
+pub const CATEGORIES: [Category; 33] = [
     category("cases of the scope document", Run, 2, List(scope_cases)),
     category("both sides of the limits", Run, 3, List(two_sided)),
     category("horizons", Run, 2, List(horizons)),
@@ -68,8 +68,10 @@ pub const CATEGORIES: [Category; 29] = [
     category("several damages", Run, 8, Endless(several_damages)),
     category("random bytes", Run, 4, Endless(random_bytes)),
     category("extreme laxities", Run, 4, Endless(extreme_laxities)),
+    category("names by hand", Run, 1, List(names_by_hand)),
+    category("names on ties", Run, 4, Endless(tied_names)),
     category("tick: made by hand", Tick, 4, List(by_hand)),
-    category("tick: cut and long inputs", Tick, 3, List(tick_lengths)),
+    category("tick: cut and long inputs", Tick, 4, List(tick_lengths)),
     category("tick: records along runs", Tick, 6, Endless(along_runs)),
     category("tick: any possible record", Tick, 6, Endless(any_possible)),
     category("tick: two and two locks", Tick, 8, Endless(crossed)),
@@ -88,6 +90,8 @@ pub const CATEGORIES: [Category; 29] = [
         4,
         Endless(call_damaged),
     ),
+    category("call: names by hand", Call, 1, List(call_names)),
+    category("call: names on ties", Call, 3, Endless(call_tied)),
     category("call: runs, all buffers", Call, 6, Endless(call_run)),
     category("call: flipped bits", Call, 3, Endless(call_flipped)),
 ];
@@ -370,6 +374,15 @@ fn extreme_laxities(chance: &mut Chance, _: usize) -> Vec<u8> {
     sheets::extreme(chance).with_horizon(chance.pick(&[0, 1, 20, 300]))
 }
 
+fn names_by_hand(_: &mut Chance) -> Vec<Vec<u8>> {
+    let drafts = names::by_hand();
+    drafts.iter().map(|draft| draft.with_horizon(30)).collect()
+}
+
+fn tied_names(chance: &mut Chance, _: usize) -> Vec<u8> {
+    names::tied(chance).with_horizon(sheets::horizon(chance))
+}
+
 // Single ticks.
 
 fn read(draft: &Draft) -> Sheet {
@@ -641,6 +654,8 @@ fn flipped(chance: &mut Chance, _: usize) -> Vec<u8> {
 
 /// The calls that take a sheet.
 const CALLS: [u8; 5] = [1, 2, 3, 4, RUN_INTO];
+/// Those that name the section behind a bound.
+const NAMING: [u8; 2] = [3, 4];
 /// The call that has a horizon and a buffer.
 const RUN_INTO: u8 = 5;
 /// The call that takes nothing, and numbers that are no call's.
@@ -706,11 +721,12 @@ fn call_lengths(chance: &mut Chance) -> Vec<Vec<u8>> {
 
 /// A valid sheet of any kind.
 fn any_sheet(chance: &mut Chance) -> Draft {
-    match chance.below(6) {
+    match chance.below(7) {
         0 => sheets::crossing(chance),
         1 => sheets::level(chance),
         2 => sheets::starters(chance),
         3 => sheets::extreme(chance),
+        4 => names::tied(chance),
         _ => {
             let mode = any_mode(chance);
             sheets::busy(chance, mode)
@@ -751,6 +767,16 @@ fn call_damaged(chance: &mut Chance, index: usize) -> Vec<u8> {
     let draft = any_sheet(chance);
     let sheet = damage::damaged_once(chance, draft, index);
     call_on(chance, CALLS[index % CALLS.len()], &sheet)
+}
+
+fn call_names(_: &mut Chance) -> Vec<Vec<u8>> {
+    let of_each = |draft: &Draft| NAMING.map(|call| with_call(call, [0, 0], 0, &draft.to_bytes()));
+    names::by_hand().iter().flat_map(of_each).collect()
+}
+
+fn call_tied(chance: &mut Chance, index: usize) -> Vec<u8> {
+    let sheet = names::tied(chance).to_bytes();
+    call_on(chance, NAMING[index % 2], &sheet)
 }
 
 fn call_run(chance: &mut Chance, _: usize) -> Vec<u8> {
