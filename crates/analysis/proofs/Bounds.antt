@@ -5,18 +5,20 @@ use mathlib.Core.Logic.{⊎-elim}
 use mathlib.Core.List.{List, [], _∷_}
 use mathlib.Core.Bool.{Bool, true, false, _&&_}
 use native.Mathlib.Omega.{arith}
-use borrow.Author.Tests.{lt-ltb, le-ltb, le-leb, lt-leb}
+use borrow.Author.Tests.{lt-ltb, le-ltb, ne-eqb}
 use mir.Val.{Fits}
 use mir.Syntax.{w16, w64}
 use lib.ListN.{length, getD, drop}
 use lib.Seq.{drop-drop}
-use Rattle.rules.specs.Words.{if_then_else_, _<?_, _≤?_, _=?_, row, largest}
+use Rattle.rules.specs.Words.{if_then_else_, _<?_, _≤?_, _=?_, some, smallest, row, largest}
 use Rattle.rules.specs.Sheet.{Step, run, lock, unlock, Task, Sheet, taskAt, isUnlock}
 use Rattle.rules.specs.Choice.{ceiling}
-use Rattle.rules.specs.Bounds.{runs, inside, sectionLength, countedSection, bound, cost}
-use Rattle.rules.specs.Answers.{byRank}
+use Rattle.rules.specs.Bounds.{runs, inside, sectionLength, begins, stepsFrom, isCounted, countedLength, bound, gives, boundBy, cost}
+use Rattle.rules.specs.Answers.{byRank, boundOf, noBound}
+use Rattle.rules.specs.declared.By.{By}
+use Rattle.rules.specs.declared.Bound.{Bound}
 use Rattle.rules.specs.Laws.{All, StepLimits, Limits}
-use Rattle.rules.proofs.Laws.{below, row-at, largest-same, all-drop}
+use Rattle.rules.proofs.Laws.{sure, below, and-at, some-of, none-of, smallest-same, smallest-passes, smallest-inside, smallest-le, smallest-is, smallest-none, row-at, largest-same, all-drop}
 use Rattle.rules.proofs.Limits.{acceptedWithinLimits}
 use Rattle.table.specs.Table.{here, stepsAt, taskOf, entryOf, sheetOf, Tabled}
 use Rattle.table.specs.Steps.{hereIs, ticksOf, semaphoreOf}
@@ -25,7 +27,7 @@ use Rattle.table.specs.declared.Table.{Table}
 use Rattle.table.specs.declared.Here.{Here}
 use Rattle.table.specs.declared.Here.the-variants.{Run, Lock, Unlock, End}
 use Rattle.table.proofs.Laws.{length-steps, steps-past, entry-out, task-at, tasks-count}
-use Rattle.analysis.specs.Steps.{isUnlockOf, atMost, Sound}
+use Rattle.analysis.specs.Steps.{isUnlockOf, atMost, lengthHere, givesHere, firstGiving, Sound}
 use Rattle.analysis.proofs.Laws.{Filled, filled-ranks, largest-turn, largest-end, largest-none, largest-le}
 
 -- the unlock of a semaphore, by its kind and the semaphore that it names
@@ -167,37 +169,64 @@ module _ (bytes : List ℕ) (e : Entry) where
           inside-adds σ = record { fits = omega (arith, inside-turn, inside-fits u from σ) }
 
 -- the section that begins at a position, by the step there
-section-first : (test : ℕ → Bool) (u : ℕ) (steps : List Step) → here steps ≡ Lock u → sectionLength test steps ≡ (if test u then runs (inside u (drop 1 steps)) else 0)
-unfolding here sectionLength
-section-first test u [] e = absurd (let z : _≡_ {A = ℕ} 0 1 = cc in omega arith)
-section-first test u (run n ∷ steps) e = absurd (let z : _≡_ {A = ℕ} 0 1 = cc in omega arith)
-section-first test u (lock s ∷ steps) e = let z : s ≡ u = cc in rw z refl
-section-first test u (unlock s ∷ steps) e = absurd (let z : _≡_ {A = ℕ} 0 1 = cc in omega arith)
+at-lock : (test : ℕ → Bool) (u : ℕ) (steps : List Step) → here steps ≡ Lock u → (begins test steps ≡ test u) × (sectionLength steps ≡ runs (inside u (drop 1 steps)))
+unfolding here begins sectionLength
+at-lock test u [] e = absurd (let z : _≡_ {A = ℕ} 0 1 = cc in omega arith)
+at-lock test u (run n ∷ steps) e = absurd (let z : _≡_ {A = ℕ} 0 1 = cc in omega arith)
+at-lock test u (lock s ∷ steps) e = let z : s ≡ u = cc in rw z (refl, refl)
+at-lock test u (unlock s ∷ steps) e = absurd (let z : _≡_ {A = ℕ} 0 1 = cc in omega arith)
 
-section-none : (test : ℕ → Bool) (steps : List Step) → ((u : ℕ) → here steps ≡ Lock u → ⊥) → 0 ≡ sectionLength test steps
-unfolding here sectionLength
-section-none test [] h = refl
-section-none test (run n ∷ steps) h = refl
-section-none test (lock s ∷ steps) h = absurd (h s refl)
-section-none test (unlock s ∷ steps) h = refl
+at-no-lock : (test : ℕ → Bool) (steps : List Step) → ((u : ℕ) → here steps ≡ Lock u → ⊥) → (begins test steps ≡ false) × (sectionLength steps ≡ 0)
+unfolding here begins sectionLength
+at-no-lock test [] h = (refl, refl)
+at-no-lock test (run n ∷ steps) h = (refl, refl)
+at-no-lock test (lock s ∷ steps) h = absurd (h s refl)
+at-no-lock test (unlock s ∷ steps) h = (refl, refl)
 
-pub no-section : (test : ℕ → Bool) (steps : List Step) (h : Here) → h ≡ here steps → ((u : ℕ) → h ≡ Lock u → ⊥) → 0 ≡ sectionLength test steps
-no-section test steps h eh n = section-none test steps (λ u y. n u (eh ∙ y))
+module _ (test : ℕ → Bool) (steps : List Step) (h : Here) (eh : h ≡ here steps) (n : (u : ℕ) → h ≡ Lock u → ⊥) where
+  pub no-section : (false ≡ begins test steps) × (0 ≡ sectionLength steps)
+  no-section = let w = at-no-lock test steps (λ u y. n u (eh ∙ y)) in (sym (w .0), sym (w .1))
 
-module _ (test : ℕ → Bool) (bytes : List ℕ) (e : Entry) (k : ℕ) (h : Here) (eh : h ≡ here (drop k (taskOf bytes e .steps))) where
-  pub at-lock : (u r : ℕ) → h ≡ Lock u → r ≡ (if test u then runs (inside u (drop (k + 1) (taskOf bytes e .steps))) else 0) → r ≡ sectionLength test (drop k (taskOf bytes e .steps))
-  at-lock u r x er =
-      er ∙ ap (λ (rest : List Step). if test u then runs (inside u rest) else 0) (sym (drop-drop 1 k (taskOf bytes e .steps)))
-      ∙ sym (section-first test u (drop k (taskOf bytes e .steps)) (sym eh ∙ x))
+module _ (bytes : List ℕ) (e : Entry) (k : ℕ) (h : Here) (eh : h ≡ here (drop k (taskOf bytes e .steps))) (u : ℕ) (eu : h ≡ Lock u) where
+  pub length-behind : (r : ℕ) → r ≡ runs (inside u (drop (k + 1) (taskOf bytes e .steps))) → r ≡ sectionLength (drop k (taskOf bytes e .steps))
+  length-behind r er =
+      er ∙ ap (λ (rest : List Step). runs (inside u rest)) (sym (drop-drop 1 k (taskOf bytes e .steps)))
+      ∙ sym (at-lock (λ s. true) u (drop k (taskOf bytes e .steps)) (sym eh ∙ eu) .1)
 
-module _ (cs : List ℕ) (i u : ℕ) where
-  pub low-ceiling : (r x : ℕ) → r ≡ x → getD cs u 0 ≤ i → r ≡ (if atMost cs i u then x else 0)
+  pub low-enough : (cs : List ℕ) (i : ℕ) → (getD cs u 0 ≤? i) ≡ begins (atMost cs i) (drop k (taskOf bytes e .steps))
   unfolding atMost
-  low-ceiling r x e l = rw (le-leb (getD cs u 0) i l) e
+  low-enough cs i = sym (at-lock (atMost cs i) u (drop k (taskOf bytes e .steps)) (sym eh ∙ eu) .0)
 
-  pub high-ceiling : (x : ℕ) → i < getD cs u 0 → 0 ≡ (if atMost cs i u then x else 0)
-  unfolding atMost
-  high-ceiling x l = rw (lt-leb (getD cs u 0) i l) refl
+-- its length where it counts, and whether it gives a bound, by the test that was passed
+module _ (test : ℕ → Bool) (steps : List Step) (b : Bool) (eb : b ≡ begins test steps) where
+  pub counts : (r : ℕ) → r ≡ sectionLength steps → b ≡ true → r ≡ lengthHere test steps
+  unfolding lengthHere
+  counts r er t = rw (sym eb ∙ t) er
+
+  pub counts-not : b ≡ false → 0 ≡ lengthHere test steps
+  unfolding lengthHere
+  counts-not t = rw (sym eb ∙ t) refl
+
+  pub gives-so : (ticks r : ℕ) → r ≡ sectionLength steps → b ≡ true → (r =? ticks) ≡ givesHere test ticks steps
+  unfolding givesHere
+  gives-so ticks r er t = rw (sym eb ∙ t, er) refl
+
+  pub gives-not : (ticks : ℕ) → b ≡ false → false ≡ givesHere test ticks steps
+  unfolding givesHere
+  gives-not ticks t = rw (sym eb ∙ t) refl
+
+-- the first step that gives it
+module _ (test : ℕ → Bool) (ticks : ℕ) (steps : List Step) (k : ℕ) (h : (x : ℕ) → x < k → givesHere test ticks (drop x steps) ≡ false) where
+  pub step-found : k < 64 → (b : Bool) → b ≡ givesHere test ticks (drop k steps) → b ≡ true → k ≡ firstGiving test ticks steps
+  unfolding firstGiving
+  step-found l b eb t = sym (smallest-is 64 255 _ k l (sym eb ∙ t) h)
+
+  pub step-turn : (b : Bool) → b ≡ givesHere test ticks (drop k steps) → b ≡ false → (x : ℕ) → x < k + 1 → givesHere test ticks (drop x steps) ≡ false
+  step-turn b eb t x l = and-at (λ x. givesHere test ticks (drop x steps) ≡ false) k h (sym eb ∙ t) x (omega arith)
+
+  pub step-none : 64 ≤ k → 255 ≡ firstGiving test ticks steps
+  unfolding firstGiving
+  step-none l = sym (smallest-none 64 255 _ (λ x m. h x (omega arith)))
 
 -- the semaphore of a lock is below 16
 lock-first : (u : ℕ) (steps : List Step) → All (StepLimits 16) steps → here steps ≡ Lock u → u < 16
@@ -210,64 +239,115 @@ lock-first u (unlock s ∷ steps) α e = absurd (let z : _≡_ {A = ℕ} 0 1 = c
 pub lock-below : (bytes : List ℕ) (e : Entry) (k : ℕ) (h : Here) (u : ℕ) → Sound bytes e → h ≡ here (drop k (taskOf bytes e .steps)) → h ≡ Lock u → u < 16
 lock-below bytes e k h u σ eh eu = lock-first u _ (all-drop (StepLimits 16) k (taskOf bytes e .steps) (σ .limits)) (sym eh ∙ eu)
 
--- the sections of task j that count for task i
+-- the longest section of task j that counts for task i
 unfoldable pub longestOf : Sheet → (i j : ℕ) → ℕ
-longestOf sheet i j = largest 64 λ k. if i <? j then sectionLength (λ s. ceiling sheet s ≤? i) (drop k (taskAt sheet j .steps)) else 0
+longestOf sheet i j = largest 64 (countedLength sheet i j)
 
-section-same : (p q : ℕ → Bool) (steps : List Step) → All (StepLimits 16) steps → ((s : ℕ) → s < 16 → p s ≡ q s) → sectionLength p steps ≡ sectionLength q steps
-unfolding sectionLength
-section-same p q [] α h = refl
-section-same p q (run n ∷ steps) α h = refl
-section-same p q (lock s ∷ steps) α h = rw (h s (α .0)) refl
-section-same p q (unlock s ∷ steps) α h = refl
+begins-same : (p q : ℕ → Bool) (steps : List Step) → All (StepLimits 16) steps → ((s : ℕ) → s < 16 → p s ≡ q s) → begins p steps ≡ begins q steps
+unfolding begins
+begins-same p q [] α h = refl
+begins-same p q (run n ∷ steps) α h = refl
+begins-same p q (lock s ∷ steps) α h = h s (α .0)
+begins-same p q (unlock s ∷ steps) α h = refl
 
-section-le : (p : ℕ → Bool) (steps : List Step) → sectionLength p steps ≤ runs steps
+section-le : (steps : List Step) → sectionLength steps ≤ runs steps
 unfolding sectionLength runs
-section-le p [] = omega arith
-section-le p (run n ∷ steps) = omega arith
-section-le p (lock s ∷ steps) = go (p s)
-  where
-    go : (b : Bool) → (if b then runs (inside s steps) else 0) ≤ runs steps
-    go true = inside-le s steps
-    go false = omega arith
-section-le p (unlock s ∷ steps) = omega arith
+section-le [] = omega arith
+section-le (run n ∷ steps) = omega arith
+section-le (lock s ∷ steps) = inside-le s steps
+section-le (unlock s ∷ steps) = omega arith
 
 module _ (bytes : List ℕ) (table : Table) (τ : Tabled bytes table) (i : ℕ) where
   abbrev sheet : Sheet
   sheet = sheetOf bytes table
 
+  -- a task up to i has no section that counts
+  not-counted : (j k : ℕ) → j ≤ i → isCounted sheet i j k ≡ false
+  unfolding isCounted
+  not-counted j k l = rw (le-ltb i j l) refl
+
   pub bound-begin : 0 ≡ largest (i + 1) (longestOf sheet i)
-  unfolding longestOf
-  bound-begin = sym (largest-none (i + 1) (longestOf sheet i) (λ j l. largest-none 64 _ (λ k m. rw (le-ltb i j (omega arith)) refl)))
+  unfolding longestOf countedLength
+  bound-begin = sym (largest-none (i + 1) (longestOf sheet i) (λ j l. largest-none 64 _ (λ k m. rw (not-counted j k (omega arith)) refl)))
 
   module _ (cs : List ℕ) (ec : cs ≡ row 16 (ceiling sheet)) (j : ℕ) (l : i < j) (e : Entry) (ee : e ≡ entryOf table j) where
-    longest-is : largest 64 (λ k. sectionLength (atMost cs i) (drop k (taskOf bytes e .steps))) ≡ longestOf sheet i j
-    unfolding longestOf atMost
-    longest-is = largest-same 64 _ _ (λ k.
-        section-same (atMost cs i) (λ s. ceiling sheet s ≤? i) (drop k (taskOf bytes e .steps)) (all-drop (StepLimits 16) k _ (sound-from bytes table τ j e ee .limits))
-        (λ s m. ap (λ (x : ℕ). x ≤? i) (ap (λ (x : List ℕ). getD x s 0) ec ∙ row-at 16 (ceiling sheet) 0 s m))
-        ∙ rw (lt-ltb i j l) (ap (λ (x : Task). sectionLength (λ s. ceiling sheet s ≤? i) (drop k (x .steps))) (ap (taskOf bytes) ee ∙ sym (task-at bytes table j))))
+    -- what is read off an entry is what the rules say of the rank
+    steps-here : (k : ℕ) → drop k (taskOf bytes e .steps) ≡ stepsFrom sheet j k
+    unfolding stepsFrom
+    steps-here k = ap (λ (x : Task). drop k (x .steps)) (ap (taskOf bytes) ee ∙ sym (task-at bytes table j))
 
-    pub bound-turn : (best v r : ℕ) → best ≡ largest j (longestOf sheet i) → v ≡ largest 64 (λ k. sectionLength (atMost cs i) (drop k (taskOf bytes e .steps))) → r ≡ max best v → r ≡ largest (j + 1) (longestOf sheet i)
+    counted-here : (k : ℕ) → begins (atMost cs i) (drop k (taskOf bytes e .steps)) ≡ isCounted sheet i j k
+    unfolding isCounted atMost
+    counted-here k =
+        begins-same (atMost cs i) (λ s. ceiling sheet s ≤? i) (drop k (taskOf bytes e .steps)) (all-drop (StepLimits 16) k _ (sound-from bytes table τ j e ee .limits))
+        (λ s m. ap (λ (x : ℕ). x ≤? i) (ap (λ (x : List ℕ). getD x s 0) ec ∙ row-at 16 (ceiling sheet) 0 s m))
+        ∙ rw (lt-ltb i j l) (ap (begins (λ s. ceiling sheet s ≤? i)) (steps-here k))
+
+    longest-is : largest 64 (λ k. lengthHere (atMost cs i) (drop k (taskOf bytes e .steps))) ≡ longestOf sheet i j
+    unfolding longestOf lengthHere countedLength
+    longest-is = largest-same 64 _ _ (λ k. rw (counted-here k, steps-here k) refl)
+
+    pub bound-turn : (best v r : ℕ) → best ≡ largest j (longestOf sheet i) → v ≡ largest 64 (λ k. lengthHere (atMost cs i) (drop k (taskOf bytes e .steps))) → r ≡ max best v → r ≡ largest (j + 1) (longestOf sheet i)
     bound-turn best v r eb ev er = largest-turn (longestOf sheet i) j best v r eb (ev ∙ longest-is) er
 
+    gives-here : (ticks k : ℕ) → givesHere (atMost cs i) ticks (drop k (taskOf bytes e .steps)) ≡ gives sheet i ticks j k
+    unfolding givesHere gives
+    gives-here ticks k = rw (counted-here k, steps-here k) refl
+
+    first-is : (ticks : ℕ) → firstGiving (atMost cs i) ticks (taskOf bytes e .steps) ≡ smallest 64 255 (gives sheet i ticks j)
+    unfolding firstGiving
+    first-is ticks = smallest-same 64 255 _ _ (λ k m. gives-here ticks k)
+
+    module _ (ticks : ℕ) (et : ticks ≡ bound sheet i) (k : ℕ) (ek : k ≡ firstGiving (atMost cs i) ticks (taskOf bytes e .steps)) (h : (x : ℕ) → x < j → some 64 (gives sheet i ticks x) ≡ false) where
+      -- the first task that has a section which gives the bound
+      pub by-found : j < 16 → k < 255 → By.Section j k ≡ boundBy sheet i
+      unfolding boundBy
+      by-found m n =
+          let at = ek ∙ first-is ticks in
+          let found = smallest-passes 64 255 (gives sheet i ticks j) 255 (omega arith) (omega (arith, at)) in
+          let inside = smallest-inside 64 255 (gives sheet i ticks j) 255 (omega arith) (omega (arith, at)) in
+          let rank = smallest-is 16 255 (λ x. some 64 (gives sheet i ticks x)) j m (some-of 64 (gives sheet i ticks j) _ inside found) h in
+          rw (← et, rank, ne-eqb j 255 (λ z. omega arith), at) refl
+
+      -- this task has none
+      pub by-turn : 255 ≤ k → (x : ℕ) → x < j + 1 → some 64 (gives sheet i ticks x) ≡ false
+      by-turn n x m = and-at (λ x. some 64 (gives sheet i ticks x) ≡ false) j h
+          (none-of 64 (gives sheet i ticks j) (λ y u. ⊎-elim
+          (λ v. absurd (omega (arith, ek ∙ first-is ticks, smallest-le 64 255 (gives sheet i ticks j) y u v)))
+          (λ v. v)
+          (sure (gives sheet i ticks j y))))
+          x (omega arith)
+
+  pub by-begin : (ticks x : ℕ) → x < i + 1 → some 64 (gives sheet i ticks x) ≡ false
+  unfolding gives
+  by-begin ticks x l = none-of 64 _ (λ k m. rw (not-counted x k (omega arith)) refl)
+
+  pub by-none : (ticks j : ℕ) → ticks ≡ bound sheet i → 16 ≤ j → ((x : ℕ) → x < j → some 64 (gives sheet i ticks x) ≡ false) → By.Nothing ≡ boundBy sheet i
+  unfolding boundBy
+  by-none ticks j et l h = rw (← et, smallest-none 16 255 (λ x. some 64 (gives sheet i ticks x)) (λ x m. h x (omega arith))) refl
+
   pub bound-end : (j best : ℕ) → j ≤ 16 → 16 ≤ j → best ≡ largest j (longestOf sheet i) → best ≡ bound sheet i
-  unfolding bound countedSection longestOf
+  unfolding bound longestOf
   bound-end j best l m eb = largest-end (longestOf sheet i) 16 j best l m eb
 
   bound-limit : bound sheet i ≤ 64000
-  unfolding bound countedSection
-  bound-limit = largest-le 16 _ 64000 (λ j. largest-le 64 _ 64000 (λ k. go j k (i <? j)))
+  unfolding bound countedLength stepsFrom
+  bound-limit = largest-le 16 _ 64000 (λ j. largest-le 64 _ 64000 (λ k. go j k (isCounted sheet i j k)))
     where
-      go : (j k : ℕ) (b : Bool) → (if b then sectionLength (λ s. ceiling sheet s ≤? i) (drop k (taskAt sheet j .steps)) else 0) ≤ 64000
+      go : (j k : ℕ) (b : Bool) → (if b then sectionLength (drop k (taskAt sheet j .steps)) else 0) ≤ 64000
       go j k true =
           let steps = taskAt sheet j .steps in
           let few = sound-runs bytes (entryOf table j) (sound-from bytes table τ j (entryOf table j) refl) in
-          omega (arith, section-le (λ s. ceiling sheet s ≤? i) (drop k steps), runs-drop k steps, ap (λ (x : Task). runs (x .steps)) (task-at bytes table j))
+          omega (arith, section-le (drop k steps), runs-drop k steps, ap (λ (x : Task). runs (x .steps)) (task-at bytes table j))
       go j k false = omega arith
 
   pub bound-fits : (b : ℕ) → b ≡ bound sheet i → Fits w16 b
   bound-fits b e = record { fits = omega (arith, bound-limit) }
+
+-- a bound and what gives it
+pub bound-made : (sheet : Sheet) (i ticks : ℕ) (by : By) → ticks ≡ bound sheet i → by ≡ boundBy sheet i → record { ticks = ticks; by = by } ≡ boundOf sheet i
+unfolding boundOf
+bound-made sheet i ticks by e f = rw (e, f) refl
 
 -- the arrays of C, of periods and of bounds
 module _ (bytes : List ℕ) (table : Table) where
@@ -279,6 +359,6 @@ module _ (bytes : List ℕ) (table : Table) where
     pub cost-at : c ≡ cost (taskAt (sheetOf bytes table) i)
     cost-at = ec ∙ ap (λ (x : Entry). cost (taskOf bytes x)) ee ∙ ap cost (sym (task-at bytes table i))
 
-  pub bounds-end : (n : ℕ) (xs : List ℕ) → table .n ≤ n → n ≤ table .n → Filled 0 (bound (sheetOf bytes table)) n xs → xs ≡ byRank 0 bound (sheetOf bytes table)
+  pub bounds-end : (n : ℕ) (xs : List Bound) → table .n ≤ n → n ≤ table .n → Filled noBound (boundOf (sheetOf bytes table)) n xs → xs ≡ byRank noBound boundOf (sheetOf bytes table)
   unfolding byRank
-  bounds-end n xs l m φ = filled-ranks 0 _ n xs φ ∙ ap (λ (k : ℕ). row 16 (λ i. if i <? k then bound (sheetOf bytes table) i else 0)) (let z : n ≡ length (sheetOf bytes table .tasks) = omega (arith, tasks-count bytes table) in z)
+  bounds-end n xs l m φ = filled-ranks noBound _ n xs φ ∙ ap (λ (k : ℕ). row 16 (λ i. if i <? k then boundOf (sheetOf bytes table) i else noBound)) (let z : n ≡ length (sheetOf bytes table .tasks) = omega (arith, tasks-count bytes table) in z)

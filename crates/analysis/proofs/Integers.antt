@@ -11,6 +11,7 @@ use lib.Signed.{leZ}
 use borrow.Author.Tests.{lt-ltb, le-ltb, le-leb, lt-leb}
 use Rattle.rules.specs.Bounds.{larger, largestOf}
 use Rattle.rules.specs.Answers.{signed}
+use Rattle.rules.specs.declared.By.{By}
 use Rattle.rules.specs.Laws.{_≼_}
 use Rattle.rules.proofs.Laws.{below}
 use Rattle.rules.proofs.Points.{largest-has}
@@ -60,13 +61,13 @@ pub lowered-slack : (t d v : ℕ) → d ≤ raise → v ≡ t + raise - d → lo
 unfolding lowered
 lowered-slack t d v l e = ap (λ (x : ℕ). pos x -ℤ pos raise) e ∙ raised t d raise (omega arith)
 
-pub signed-below : (v : ℕ) → v < raise → record { below = true; size = raise - v } ≡ signed (lowered v)
+pub signed-below : (v : ℕ) (by : By) → v < raise → record { below = true; size = raise - v; by = by } ≡ signed (lowered v) by
 unfolding lowered signed
-signed-below v l = sym (ap signed (minus-lt v raise l) ∙ ap (λ (x : ℕ). record { below = true; size = x }) (let e : suc (raise - suc v) ≡ raise - v = omega arith in e))
+signed-below v by l = sym (ap (λ (z : ℤ). signed z by) (minus-lt v raise l) ∙ ap (λ (x : ℕ). record { below = true; size = x; by = by }) (let e : suc (raise - suc v) ≡ raise - v = omega arith in e))
 
-pub signed-above : (v : ℕ) → raise ≤ v → record { below = false; size = v - raise } ≡ signed (lowered v)
+pub signed-above : (v : ℕ) (by : By) → raise ≤ v → record { below = false; size = v - raise; by = by } ≡ signed (lowered v) by
 unfolding lowered signed
-signed-above v l = sym (ap signed (minus-le v raise l))
+signed-above v by l = sym (ap (λ (z : ℤ). signed z by) (minus-le v raise l))
 
 -- the largest of many: one more, and the end
 module _ (f : ℕ → ℤ) (first : ℤ) where

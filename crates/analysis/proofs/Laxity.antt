@@ -14,14 +14,15 @@ use mir.Val.{Fits}
 use mir.Syntax.{w16, w32, w64}
 use Rattle.rules.specs.Words.{if_then_else_, _<?_, row, total}
 use Rattle.rules.specs.Sheet.{Task, Sheet, taskAt}
-use Rattle.rules.specs.Bounds.{bound, cost, roundedUp, demand, slack, largestOf, laxity}
-use Rattle.rules.specs.Answers.{byRank, signed}
+use Rattle.rules.specs.Bounds.{bound, boundBy, cost, roundedUp, demand, slack, largestOf, laxity}
+use Rattle.rules.specs.Answers.{byRank, boundOf, noBound, signed, laxityOf, noLaxity}
+use Rattle.rules.specs.declared.Bound.{Bound}
 use Rattle.rules.specs.declared.Laxity.{Laxity}
 use Rattle.rules.proofs.Laws.{true-false, below, lightest, row-at, row-same, total-same}
 use Rattle.table.specs.Table.{taskOf, entryOf, sheetOf, Tabled}
 use Rattle.table.specs.declared.Table.{Table}
 use Rattle.table.proofs.Laws.{task-at, tasks-count}
-use Rattle.analysis.specs.Laxity.{demandOf, demandFrom, slackFrom, pointFrom, largestFrom, laxityFrom, laxitiesFrom, Periods, raise, lowered}
+use Rattle.analysis.specs.Laxity.{demandOf, demandFrom, slackFrom, pointFrom, largestFrom, laxityFrom, ofRank, laxitiesFrom, Periods, raise, lowered}
 use Rattle.analysis.proofs.Laws.{Filled, filled-ranks, ranked, total-le}
 use Rattle.analysis.proofs.Bounds.{limits}
 use Rattle.rules.specs.Laws.{_≼_}
@@ -160,11 +161,11 @@ module _ (costs periods : List ℕ) (b i : ℕ) (π : Periods (i + 1) periods) w
 pub periods-first : (periods : List ℕ) (i n : ℕ) → i < n → Periods n periods → Periods (i + 1) periods
 periods-first periods i n l π = record { few = omega (arith, π .few); from = λ r m. π .from r (omega arith) }
 
-pub laxities-end : (costs periods bounds : List ℕ) (n i : ℕ) (xs : List Laxity) → i ≤ n → n ≤ i → Filled (signed (pos 0)) (λ i. signed (laxityFrom costs periods (getD bounds i 0) i)) i xs → xs ≡ laxitiesFrom costs periods bounds n
+pub laxities-end : (costs periods : List ℕ) (bounds : List Bound) (n i : ℕ) (xs : List Laxity) → i ≤ n → n ≤ i → Filled noLaxity (λ i. ofRank costs periods (getD bounds i noBound) i) i xs → xs ≡ laxitiesFrom costs periods bounds n
 unfolding laxitiesFrom
 laxities-end costs periods bounds n i xs l m φ =
-    filled-ranks (signed (pos 0)) _ i xs φ
-    ∙ ap (λ (k : ℕ). row 16 (λ j. if j <? k then signed (laxityFrom costs periods (getD bounds j 0) j) else signed (pos 0))) (let z : i ≡ n = omega arith in z)
+    filled-ranks noLaxity _ i xs φ
+    ∙ ap (λ (k : ℕ). row 16 (λ j. if j <? k then ofRank costs periods (getD bounds j noBound) j else noLaxity)) (let z : i ≡ n = omega arith in z)
 
 -- of a sheet's own C, periods and bound it is the sheet's laxity
 module _ (sheet : Sheet) (costs periods : List ℕ) (ec : costs ≡ row 16 (λ r. cost (taskAt sheet r))) (ep : periods ≡ row 16 (λ r. taskAt sheet r .period))
@@ -204,18 +205,27 @@ module _ (bytes : List ℕ) (table : Table) (τ : Tabled bytes table) (periods :
         (limits bytes table τ .each r (rw (tasks-count bytes table) l) .periodFrom);
   }
 
-  module _ (costs bounds : List ℕ) (ec : costs ≡ row 16 (λ i. cost (taskAt (sheetOf bytes table) i))) (eb : bounds ≡ byRank 0 bound (sheetOf bytes table)) where
+  module _ (costs : List ℕ) (bounds : List Bound) (ec : costs ≡ row 16 (λ i. cost (taskAt (sheetOf bytes table) i))) (eb : bounds ≡ byRank noBound boundOf (sheetOf bytes table)) where
+    abbrev sheet : Sheet
+    sheet = sheetOf bytes table
+
     abbrev count : ℕ
-    count = length (sheetOf bytes table .tasks)
+    count = length (sheet .tasks)
+
+    of-sheet : (b : Bound) (i : ℕ) → i < 16 → b ≡ boundOf sheet i → ofRank costs periods b i ≡ laxityOf sheet i
+    unfolding ofRank laxityOf boundOf
+    of-sheet b i l e =
+        ap (λ (x : Bound). signed (laxityFrom costs periods (x .ticks) i) (x .by)) e
+        ∙ ap (λ (z : ℤ). signed z (boundBy sheet i)) (laxity-of-sheet sheet costs periods ec periods-of-sheet (bound sheet i) i refl l)
 
     rank-same : (i : ℕ) → i < 16
-        → (if i <? count then signed (laxityFrom costs periods (getD bounds i 0) i) else signed (pos 0)) ≡ (if i <? count then signed (laxity (sheetOf bytes table) i) else signed (pos 0))
+        → (if i <? count then ofRank costs periods (getD bounds i noBound) i else noLaxity) ≡ (if i <? count then laxityOf sheet i else noLaxity)
     rank-same i l = ⊎-elim
-        (λ m. let b = ap (λ (x : List ℕ). getD x i 0) eb ∙ ranked 0 bound (sheetOf bytes table) i l m in
-        rw (lt-ltb i count m) (ap signed (laxity-of-sheet (sheetOf bytes table) costs periods ec periods-of-sheet (getD bounds i 0) i b l)))
+        (λ m. let b = ap (λ (x : List Bound). getD x i noBound) eb ∙ ranked noBound boundOf sheet i l m in
+        rw (lt-ltb i count m) (of-sheet (getD bounds i noBound) i l b))
         (λ m. rw (le-ltb i count m) refl)
         (below i count)
 
-    pub laxities-of-sheet : (r : List Laxity) → r ≡ laxitiesFrom costs periods bounds (table .n) → r ≡ byRank (signed (pos 0)) (λ sheet i. signed (laxity sheet i)) (sheetOf bytes table)
+    pub laxities-of-sheet : (r : List Laxity) → r ≡ laxitiesFrom costs periods bounds (table .n) → r ≡ byRank noLaxity laxityOf sheet
     unfolding laxitiesFrom byRank
     laxities-of-sheet r er = er ∙ ap (laxitiesFrom costs periods bounds) (sym (tasks-count bytes table)) ∙ row-same 16 _ _ rank-same

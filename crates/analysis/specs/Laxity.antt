@@ -7,7 +7,8 @@ use lib.ListN.{getD}
 use lib.IntN.{ℤ, pos, _-ℤ_}
 use Rattle.rules.specs.Words.{if_then_else_, _<?_, _=?_, some, row, total}
 use Rattle.rules.specs.Bounds.{roundedUp, largestOf}
-use Rattle.rules.specs.Answers.{signed}
+use Rattle.rules.specs.Answers.{noBound, signed, noLaxity}
+use Rattle.rules.specs.declared.Bound.{Bound}
 use Rattle.rules.specs.declared.Laxity.{Laxity}
 
 -- C of r times (t over r's period, rounded up).
@@ -42,9 +43,13 @@ module _ (costs periods : List ℕ) (b i : ℕ) where
   unfoldable pub laxityFrom : ℤ
   laxityFrom = largestOf (i + 1) (slackFrom (getD periods i 0)) largestFrom
 
+-- The laxity of a rank, with what gives its bound.
+unfoldable pub ofRank : (costs periods : List ℕ) → Bound → (i : ℕ) → Laxity
+ofRank costs periods b i = signed (laxityFrom costs periods (b .ticks) i) (b .by)
+
 -- Sixteen laxities, of the first n ranks; zero behind them.
-unfoldable pub laxitiesFrom : (costs periods bounds : List ℕ) (n : ℕ) → List Laxity
-laxitiesFrom costs periods bounds n = row 16 λ i. if i <? n then signed (laxityFrom costs periods (getD bounds i 0) i) else signed (pos 0)
+unfoldable pub laxitiesFrom : (costs periods : List ℕ) (bounds : List Bound) (n : ℕ) → List Laxity
+laxitiesFrom costs periods bounds n = row 16 λ i. if i <? n then ofRank costs periods (getD bounds i noBound) i else noLaxity
 
 -- The first n of sixteen periods are at least 1.
 pub record Periods (n : ℕ) (periods : List ℕ) : Type 0 where

@@ -1,5 +1,7 @@
 // C, bounds and laxities of a sheet's tasks, proved equal to rules/specs/Bounds.antt.
 // The laxities are made of three arrays by value (C, periods, bounds), so that one of them can be another than the sheet's.
+use rules::Bound;
+use rules::By;
 use rules::Laxity;
 use table::Entry;
 use table::Here;
@@ -8,16 +10,15 @@ use table::Table;
 ghost use mathlib.Core.Path.{_≡_};
 ghost use Prim.Native.Nat.{_+_, _<_, _≤_, max};
 ghost use lib.ListN.{getD, drop};
-ghost use lib.IntN.{pos};
-ghost use Rattle.rules.specs.Words.{if_then_else_, row, largest};
+ghost use Rattle.rules.specs.Words.{row, largest};
 ghost use Rattle.rules.specs.Sheet.{taskAt};
 ghost use Rattle.rules.specs.Choice.{ceiling};
-ghost use Rattle.rules.specs.Bounds.{runs, inside, sectionLength, bound, cost, roundedUp, laxity};
-ghost use Rattle.rules.specs.Answers.{byRank, signed};
+ghost use Rattle.rules.specs.Bounds.{runs, inside, sectionLength, begins, bound, boundBy, cost, roundedUp};
+ghost use Rattle.rules.specs.Answers.{byRank, boundOf, noBound, signed, laxityOf, noLaxity};
 ghost use Rattle.table.specs.Table.{entryOf, taskOf, sheetOf, Tabled};
 ghost use Rattle.table.specs.Steps.{hereIs};
-ghost use Rattle.analysis.specs.Steps.{isUnlockOf, atMost, Sound};
-ghost use Rattle.analysis.specs.Laxity.{demandFrom, slackFrom, largestFrom, laxityFrom, laxitiesFrom, Periods, raise, lowered};
+ghost use Rattle.analysis.specs.Steps.{isUnlockOf, atMost, lengthHere, givesHere, firstGiving, Sound};
+ghost use Rattle.analysis.specs.Laxity.{demandFrom, slackFrom, largestFrom, laxityFrom, ofRank, laxitiesFrom, Periods, raise, lowered};
 ghost use Rattle.analysis.specs.Laxity.{hasPointsOf, anotherHas, countedFrom};
 
 // The larger of two.
@@ -106,40 +107,52 @@ fn inside_length(s: &[u8], e: Entry, u: u16, from: usize) -> u64
     sum
 }
 
-// The length of a section of semaphore `u` from behind its lock on, where the ceiling is at most i; else 0.
-fn length_behind(s: &[u8], e: Entry, cs: [u8; 16], i: usize, u: u16, from: usize) -> u64
-    requires { ⌜ (u < 16) × Sound (now s) e ⌝ }
-    ensures { λ r. ⌜ r ≡ (if atMost cs i u then runs (inside u (drop from (taskOf (now (s .entry)) e .steps))) else 0) ⌝ }
-{
-    let at = u as usize;
-    let c = cs[at] as usize;
-    if c <= i {
-        return inside_length(s, e, u, from);
-    }
-    0
-}
-
-// The length of the section that begins at a position, where its semaphore has a ceiling of at most i; else 0.
-fn section_length(s: &[u8], e: Entry, cs: [u8; 16], i: usize, k: usize) -> u64
+// The length of the section that begins at a position; 0 where none does.
+fn section_length(s: &[u8], e: Entry, k: usize) -> u64
     requires { ⌜ (k < 64) × Sound (now s) e ⌝ }
-    ensures { λ r. ⌜ r ≡ sectionLength (atMost cs i) (drop k (taskOf (now (s .entry)) e .steps)) ⌝ }
+    ensures { λ r. ⌜ r ≡ sectionLength (drop k (taskOf (now (s .entry)) e .steps)) ⌝ }
 {
     let h = table::step_at(s, e, k);
     let Here::Lock(u) = h else {
         return 0;
     };
-    length_behind(s, e, cs, i, u, k + 1)
+    inside_length(s, e, u, k + 1)
+}
+
+// Does a section begin at a position whose semaphore has a ceiling of at most i?
+fn is_counted(s: &[u8], e: Entry, cs: [u8; 16], i: usize, k: usize) -> bool
+    requires { ⌜ (k < 64) × Sound (now s) e ⌝ }
+    ensures { λ r. ⌜ r ≡ begins (atMost cs i) (drop k (taskOf (now (s .entry)) e .steps)) ⌝ }
+{
+    let h = table::step_at(s, e, k);
+    let Here::Lock(u) = h else {
+        return false;
+    };
+    let at = u as usize;
+    let c = cs[at] as usize;
+    c <= i
+}
+
+// The length of such a section; 0 where none begins.
+fn counted_length(s: &[u8], e: Entry, cs: [u8; 16], i: usize, k: usize) -> u64
+    requires { ⌜ (k < 64) × Sound (now s) e ⌝ }
+    ensures { λ r. ⌜ r ≡ lengthHere (atMost cs i) (drop k (taskOf (now (s .entry)) e .steps)) ⌝ }
+{
+    if is_counted(s, e, cs, i, k) {
+        return section_length(s, e, k);
+    }
+    0
 }
 
 // The longest of a task's sections whose semaphores have a ceiling of at most i; 0 if none.
 fn longest_section(s: &[u8], e: Entry, cs: [u8; 16], i: usize) -> u64
     requires { ⌜ Sound (now s) e ⌝ }
-    ensures { λ r. ⌜ r ≡ largest 64 (λ k. sectionLength (atMost cs i) (drop k (taskOf (now (s .entry)) e .steps))) ⌝ }
+    ensures { λ r. ⌜ r ≡ largest 64 (λ k. lengthHere (atMost cs i) (drop k (taskOf (now (s .entry)) e .steps))) ⌝ }
 {
     let mut longest: u64 = 0;
     let mut k: usize = 0;
     while k < 64 {
-        let length = section_length(s, e, cs, i, k);
+        let length = counted_length(s, e, cs, i, k);
         longest = larger(longest, length);
         k += 1;
     }
@@ -147,7 +160,7 @@ fn longest_section(s: &[u8], e: Entry, cs: [u8; 16], i: usize) -> u64
 }
 
 // The bound B of task i: over the tasks of greater rank.
-fn bound_of(s: &[u8], table: Table, cs: [u8; 16], i: usize) -> u64
+fn bound_ticks(s: &[u8], table: Table, cs: [u8; 16], i: usize) -> u64
     requires { ⌜ (i < 16) × Tabled (now s) table ⌝ }
     requires { ⌜ cs ≡ row 16 (ceiling (sheetOf (now s) table)) ⌝ }
     ensures { λ r. ⌜ r ≡ bound (sheetOf (now (s .entry)) table) i ⌝ }
@@ -163,18 +176,80 @@ fn bound_of(s: &[u8], table: Table, cs: [u8; 16], i: usize) -> u64
     longest
 }
 
-// The bound of each task; 0 behind them.
-pub fn bounds_of(s: &[u8], table: Table, cs: [u8; 16]) -> [u16; 16]
+// Does the section at a position give a bound of so many ticks?
+fn gives(s: &[u8], e: Entry, cs: [u8; 16], i: usize, ticks: u64, k: usize) -> bool
+    requires { ⌜ (k < 64) × Sound (now s) e ⌝ }
+    ensures { λ r. ⌜ r ≡ givesHere (atMost cs i) ticks (drop k (taskOf (now (s .entry)) e .steps)) ⌝ }
+{
+    if is_counted(s, e, cs, i, k) {
+        return section_length(s, e, k) == ticks;
+    }
+    false
+}
+
+// The first lock step of a task whose section gives it; 255 if none does.
+fn giving_step(s: &[u8], e: Entry, cs: [u8; 16], i: usize, ticks: u64) -> u8
+    requires { ⌜ Sound (now s) e ⌝ }
+    ensures { λ r. ⌜ r ≡ firstGiving (atMost cs i) ticks (taskOf (now (s .entry)) e .steps) ⌝ }
+{
+    let mut k: usize = 0;
+    while k < 64 {
+        if gives(s, e, cs, i, ticks, k) {
+            return k as u8;
+        }
+        k += 1;
+    }
+    255
+}
+
+// What gives the bound of task i: the first section of that length, by rank and then by step.
+fn bound_by(s: &[u8], table: Table, cs: [u8; 16], i: usize, ticks: u64) -> By
+    requires { ⌜ (i < 16) × Tabled (now s) table ⌝ }
+    requires { ⌜ (cs ≡ row 16 (ceiling (sheetOf (now s) table))) × (ticks ≡ bound (sheetOf (now s) table) i) ⌝ }
+    ensures { λ r. ⌜ r ≡ boundBy (sheetOf (now (s .entry)) table) i ⌝ }
+{
+    let mut rank: usize = i + 1;
+    while rank < 16 {
+        let e = table::entry_at(table, rank);
+        let step = giving_step(s, e, cs, i, ticks);
+        if step < 255 {
+            return By::Section(rank as u8, step);
+        }
+        rank += 1;
+    }
+    By::Nothing
+}
+
+// The bound of task i, and what gives it.
+fn bound_of(s: &[u8], table: Table, cs: [u8; 16], i: usize) -> Bound
+    requires { ⌜ (i < 16) × Tabled (now s) table ⌝ }
+    requires { ⌜ cs ≡ row 16 (ceiling (sheetOf (now s) table)) ⌝ }
+    ensures { λ r. ⌜ r ≡ boundOf (sheetOf (now (s .entry)) table) i ⌝ }
+{
+    let ticks = bound_ticks(s, table, cs, i);
+    let by = bound_by(s, table, cs, i, ticks);
+    Bound {
+        ticks: ticks as u16,
+        by: by,
+    }
+}
+
+// The bound of each task; zero and by nothing behind them.
+pub fn bounds_of(s: &[u8], table: Table, cs: [u8; 16]) -> [Bound; 16]
     requires { ⌜ Tabled (now s) table ⌝ }
     requires { ⌜ cs ≡ row 16 (ceiling (sheetOf (now s) table)) ⌝ }
-    ensures { λ r. ⌜ r ≡ byRank 0 bound (sheetOf (now (s .entry)) table) ⌝ }
+    ensures { λ r. ⌜ r ≡ byRank noBound boundOf (sheetOf (now (s .entry)) table) ⌝ }
 {
     let n = table.n as usize;
-    let mut bounds: [u16; 16] = [0; 16];
+    let none = Bound {
+        ticks: 0,
+        by: By::Nothing,
+    };
+    let mut bounds = [none; 16];
     let mut i: usize = 0;
     while i < n {
         let b = bound_of(s, table, cs, i);
-        bounds[i] = b as u16;
+        bounds[i] = b;
         i += 1;
     }
     bounds
@@ -307,50 +382,55 @@ fn largest_slack(costs: [u16; 16], periods: [u16; 16], b: u16, i: usize) -> u64
     best
 }
 
-// A raised slack as its sign and its size.
-fn signed_of(v: u64) -> Laxity
+// A raised slack as its sign and its size, with what gives the bound in it.
+fn signed_of(v: u64, by: By) -> Laxity
     requires { ⌜ (raise ≤ v + 4_294_967_295) × (v ≤ raise + 4_294_967_295) ⌝ }
-    ensures { λ r. ⌜ r ≡ signed (lowered v) ⌝ }
+    ensures { λ r. ⌜ r ≡ signed (lowered v) by ⌝ }
 {
     if v < RAISE {
         return Laxity {
             below: true,
             size: (RAISE - v) as u32,
+            by: by,
         };
     }
     Laxity {
         below: false,
         size: (v - RAISE) as u32,
+        by: by,
     }
 }
 
 // The laxity of task i from the C and periods of the ranks up to it and its bound.
-pub fn laxity_from(costs: [u16; 16], periods: [u16; 16], b: u16, i: usize) -> Laxity
+pub fn laxity_from(costs: [u16; 16], periods: [u16; 16], b: Bound, i: usize) -> Laxity
     requires { ⌜ Periods (i + 1) periods ⌝ }
-    ensures { λ r. ⌜ r ≡ signed (laxityFrom costs periods b i) ⌝ }
+    ensures { λ r. ⌜ r ≡ ofRank costs periods b i ⌝ }
 {
-    let v = largest_slack(costs, periods, b, i);
-    signed_of(v)
+    let v = largest_slack(costs, periods, b.ticks, i);
+    let by = b.by;
+    signed_of(v, by)
 }
 
 // The laxity of each of n ranks from their C, periods and bounds; zero behind them.
 pub fn laxities_from(
     costs: [u16; 16],
     periods: [u16; 16],
-    bounds: [u16; 16],
+    bounds: [Bound; 16],
     n: usize,
 ) -> [Laxity; 16]
     requires { ⌜ Periods n periods ⌝ }
     ensures { λ r. ⌜ r ≡ laxitiesFrom costs periods bounds n ⌝ }
 {
-    let zero = Laxity {
+    let none = Laxity {
         below: false,
         size: 0,
+        by: By::Nothing,
     };
-    let mut laxities = [zero; 16];
+    let mut laxities = [none; 16];
     let mut i: usize = 0;
     while i < n {
-        let x = laxity_from(costs, periods, bounds[i], i);
+        let b = bounds[i];
+        let x = laxity_from(costs, periods, b, i);
         laxities[i] = x;
         i += 1;
     }
@@ -361,7 +441,7 @@ pub fn laxities_from(
 pub fn laxities_of(s: &[u8], table: Table, cs: [u8; 16]) -> [Laxity; 16]
     requires { ⌜ Tabled (now s) table ⌝ }
     requires { ⌜ cs ≡ row 16 (ceiling (sheetOf (now s) table)) ⌝ }
-    ensures { λ r. ⌜ r ≡ byRank (signed (pos 0)) (λ sheet i. signed (laxity sheet i)) (sheetOf (now (s .entry)) table) ⌝ }
+    ensures { λ r. ⌜ r ≡ byRank noLaxity laxityOf (sheetOf (now (s .entry)) table) ⌝ }
 {
     let costs = costs_of(s, table);
     let periods = periods_of(table);

@@ -2,6 +2,8 @@
 // lent, and the sheet's length (16 bits each, big-endian), and the sheet; what is missing is zero. The buffer is marked, and
 // what stands in it afterwards is printed too. workbench/README.md has the format, and what is printed.
 // A further call is a function that prints its answer and a line in `ask`. The two forms of the tick are asked by `one_tick`.
+use rules::Bound;
+use rules::Laxity;
 ghost use Prim.Native.Nat.{_≤_};
 ghost use mathlib.Core.Path.{_≡_};
 ghost use lib.ListN.{length};
@@ -24,15 +26,58 @@ fn ceilings(sheet: &[u8]) {
     wire::print_bytes(b"ceilings", &values);
 }
 
+fn print_bounds(values: [Bound; 16]) {
+    wire::write(b"bounds");
+    let mut i = 0;
+    while i < 16 {
+        let x = values[i];
+        wire::print(b" ", x.ticks as u64);
+        i += 1;
+    }
+    wire::end_line();
+}
+
+// What gives each of them.
+fn print_bounds_by(values: [Bound; 16]) {
+    wire::write(b"by");
+    let mut i = 0;
+    while i < 16 {
+        let x = values[i];
+        let by = x.by;
+        wire::print_by(b" ", by);
+        i += 1;
+    }
+    wire::end_line();
+}
+
 fn bounds(sheet: &[u8]) {
     let a = simulator::bounds(sheet);
     let refusal = a.refusal;
     let values = a.bounds;
     wire::print_refusal(refusal);
-    wire::write(b"bounds");
+    print_bounds(values);
+    print_bounds_by(values);
+}
+
+fn print_laxities(values: [Laxity; 16]) {
+    wire::write(b"laxities");
     let mut i = 0;
     while i < 16 {
-        wire::print(b" ", values[i] as u64);
+        let x = values[i];
+        wire::print_laxity(b" ", x);
+        i += 1;
+    }
+    wire::end_line();
+}
+
+// What gives the bound in each of them.
+fn print_laxities_by(values: [Laxity; 16]) {
+    wire::write(b"by");
+    let mut i = 0;
+    while i < 16 {
+        let x = values[i];
+        let by = x.by;
+        wire::print_by(b" ", by);
         i += 1;
     }
     wire::end_line();
@@ -43,14 +88,8 @@ fn laxities(sheet: &[u8]) {
     let refusal = a.refusal;
     let values = a.laxities;
     wire::print_refusal(refusal);
-    wire::write(b"laxities");
-    let mut i = 0;
-    while i < 16 {
-        let x = values[i];
-        wire::print_laxity(b" ", x);
-        i += 1;
-    }
-    wire::end_line();
+    print_laxities(values);
+    print_laxities_by(values);
 }
 
 // Every byte is 170, which no runner byte is.

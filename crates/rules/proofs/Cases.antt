@@ -7,13 +7,13 @@ use Rattle.rules.proofs.Open.{rules}
 pub proved : All Holds cases
 unfolding rules
 proved = (
-  (refl, (refl, (refl, (refl, (refl, (refl, (refl, (refl, tt)))))))),
+  (refl, (refl, (refl, (refl, (refl, (refl, (refl, (refl, (refl, tt))))))))),
   (
     (refl, (refl, (refl, (refl, tt)))),
     (
       (refl, (refl, (refl, (refl, (refl, tt))))),
       (
-        (refl, (refl, (refl, tt))),
+        (refl, (refl, (refl, (refl, tt)))),
         (
           (refl, (refl, (refl, tt))),
           (
@@ -21,7 +21,7 @@ proved = (
             (
               (refl, (refl, tt)),
               (
-                (refl, (refl, (refl, (refl, (refl, tt))))),
+                (refl, (refl, (refl, (refl, (refl, (refl, tt)))))),
                 tt,
               ),
             ),

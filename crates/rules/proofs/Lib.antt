@@ -10,6 +10,7 @@ pub mod Points
 pub mod Numbers
 pub mod Tick
 pub mod Limits
+pub mod Names
 pub mod Fields
 pub mod Possible
 pub mod Steps

@@ -12,11 +12,13 @@ use Rattle.rules.specs.Record.{possible}
 use Rattle.rules.specs.Choice.{ceiling, runnerByte}
 use Rattle.rules.specs.Tick.{runnerOf, tick}
 use Rattle.rules.specs.Run.{after, written}
-use Rattle.rules.specs.Bounds.{bound, laxity}
+use Rattle.rules.specs.Bounds.{bound, boundBy, laxity}
 use Rattle.rules.specs.declared.State.{State}
 use Rattle.rules.specs.declared.Refusal.{Refusal}
 use Rattle.rules.specs.declared.Checked.{Checked}
 use Rattle.rules.specs.declared.Ceilings.{Ceilings}
+use Rattle.rules.specs.declared.By.{By}
+use Rattle.rules.specs.declared.Bound.{Bound}
 use Rattle.rules.specs.declared.Bounds.{Bounds}
 use Rattle.rules.specs.declared.Laxity.{Laxity}
 use Rattle.rules.specs.declared.Laxities.{Laxities}
@@ -55,21 +57,33 @@ ceilings bytes =
     let r = readSheet bytes in
     record { refusal = why r; ceilings = made r (replicate 16 0) λ sheet. row 16 (ceiling sheet) }
 
+-- The bound of a task, and what gives it. In a refused answer, and behind the last task: zero, and by nothing.
+unfoldable pub boundOf : Sheet → (i : ℕ) → Bound
+boundOf sheet i = record { ticks = bound sheet i; by = boundBy sheet i }
+
+abbrev pub noBound : Bound
+noBound = record { ticks = 0; by = By.Nothing }
+
 unfoldable pub bounds : (bytes : List ℕ) → Bounds
 bounds bytes =
     let r = readSheet bytes in
-    record { refusal = why r; bounds = made r (replicate 16 0) (byRank 0 bound) }
+    record { refusal = why r; bounds = made r (replicate 16 noBound) (byRank noBound boundOf) }
 
--- A laxity may be negative: its sign and its size.
-unfoldable pub signed : ℤ → Laxity
-signed (pos n) = record { below = false; size = n }
-signed (negsuc n) = record { below = true; size = suc n }
+-- A laxity may be negative: its sign and its size, and what gives the bound in it.
+unfoldable pub signed : ℤ → By → Laxity
+signed (pos n) by = record { below = false; size = n; by = by }
+signed (negsuc n) by = record { below = true; size = suc n; by = by }
+
+unfoldable pub laxityOf : Sheet → (i : ℕ) → Laxity
+laxityOf sheet i = signed (laxity sheet i) (boundBy sheet i)
+
+abbrev pub noLaxity : Laxity
+noLaxity = record { below = false; size = 0; by = By.Nothing }
 
 unfoldable pub laxities : (bytes : List ℕ) → Laxities
 laxities bytes =
     let r = readSheet bytes in
-    let zero = signed (pos 0) in
-    record { refusal = why r; laxities = made r (replicate 16 zero) (byRank zero λ sheet i. signed (laxity sheet i)) }
+    record { refusal = why r; laxities = made r (replicate 16 noLaxity) (byRank noLaxity laxityOf) }
 
 -- A call with a state tests 16, then 17. Refused, the state comes back as the one that came.
 unfoldable pub readTick : (bytes : List ℕ) → State → Reading Sheet

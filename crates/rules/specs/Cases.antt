@@ -12,7 +12,8 @@ use Rattle.rules.specs.Fields.{Releases, TicksRun, up, standing, noCount
 use Rattle.rules.specs.Record.{recordAt, possible}
 use Rattle.rules.specs.Laws.{All}
 use Rattle.rules.specs.Run.{after, trace}
-use Rattle.rules.specs.Bounds.{bound, laxity}
+use Rattle.rules.specs.Bounds.{bound, boundBy, laxity}
+use Rattle.rules.specs.declared.By.{By}
 use Rattle.rules.specs.declared.State.{State}
 use Rattle.rules.specs.declared.TaskRecord.{TaskRecord}
 
@@ -23,6 +24,7 @@ pub data Outcome : Type 0 where
   Switches : ℕ → Outcome
   Counts : ℕ → List ℕ → Outcome
   Bounds : List ℕ → Outcome
+  Names : List By → Outcome
   Laxities : List ℤ → Outcome
   Ends : State → Outcome
 
@@ -40,6 +42,7 @@ Shows sheet st h (Trace xs) = trace h sheet st ≡ xs
 Shows sheet st h (Switches n) = after h sheet st .switches ≡ n
 Shows sheet st h (Counts i xs) = counted (recordAt (after h sheet st .tasks) i .counts) ≡ xs
 Shows sheet st h (Bounds xs) = row (length (sheet .tasks)) (bound sheet) ≡ xs
+Shows sheet st h (Names xs) = row (length (sheet .tasks)) (boundBy sheet) ≡ xs
 Shows sheet st h (Laxities xs) = row (length (sheet .tasks)) (laxity sheet) ≡ xs
 Shows sheet st h (Ends end) = after h sheet st ≡ end
 
@@ -84,6 +87,7 @@ A = record {
       ∷ Counts 0 (1 ∷ 1 ∷ 0 ∷ 2 ∷ 2 ∷ 4 ∷ [])
       ∷ Counts 1 (1 ∷ 1 ∷ 0 ∷ 5 ∷ 0 ∷ 7 ∷ [])
       ∷ Bounds (3 ∷ 0 ∷ [])
+      ∷ Names (By.Section 1 1 ∷ By.Nothing ∷ [])
       ∷ Laxities (pos 5 ∷ pos 11 ∷ [])
       ∷ [];
 }
@@ -127,6 +131,7 @@ B = record {
   ticks = 0;
   outcomes =
       Bounds (0 ∷ 4 ∷ 4 ∷ 0 ∷ [])
+      ∷ Names (By.Nothing ∷ By.Section 3 1 ∷ By.Section 3 1 ∷ By.Nothing ∷ [])
       ∷ Laxities (pos 6 ∷ negsuc 0 ∷ pos 2 ∷ pos 8 ∷ [])
       ∷ [];
 }
@@ -183,6 +188,7 @@ F = record {
       Ends start
       ∷ Trace []
       ∷ Bounds (3 ∷ 0 ∷ [])
+      ∷ Names (By.Section 1 1 ∷ By.Nothing ∷ [])
       ∷ Laxities (pos 5 ∷ pos 11 ∷ [])
       ∷ [];
 }

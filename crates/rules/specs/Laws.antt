@@ -14,8 +14,9 @@ use Rattle.rules.specs.Fields.{start}
 use Rattle.rules.specs.Record.{recordAt, ahead, possible}
 use Rattle.rules.specs.Choice.{Runner, job, Walks, topJob, heldByOther, runner}
 use Rattle.rules.specs.Tick.{afterReleases, runnerOf, tick}
-use Rattle.rules.specs.Bounds.{roundedUp, demand, slack, laxity}
+use Rattle.rules.specs.Bounds.{sectionLength, stepsFrom, isCounted, bound, boundBy, roundedUp, demand, slack, laxity}
 use Rattle.rules.specs.Answers.{readTick, readRun}
+use Rattle.rules.specs.declared.By.{By}
 use Rattle.rules.specs.declared.Head.{Head}
 use Rattle.rules.specs.declared.Job.{Job}
 use Rattle.rules.specs.declared.Refusal.{Refusal}
@@ -115,6 +116,29 @@ StartPossible = (bytes : List ℕ) (sheet : Sheet) → readSheet bytes ≡ read 
 abbrev pub TickPossible : Type 0
 TickPossible = (bytes : List ℕ) (sheet : Sheet) → readSheet bytes ≡ read sheet
     → (st : State) → possible sheet st ≡ true → st .t < 60000 → possible sheet (tick sheet st) ≡ true
+
+-- W6. The bound of task i is given by the section at j and k: it is counted, its length is the bound, no counted section is
+-- longer, and none as long stands at a smaller rank, or at the same rank at a smaller step.
+pub record GivenBy (sheet : Sheet) (i j k : ℕ) : Type 0 where
+  pub counted : isCounted sheet i j k ≡ true
+  pub length : sectionLength (stepsFrom sheet j k) ≡ bound sheet i
+  pub longest : (r s : ℕ) → isCounted sheet i r s ≡ true → sectionLength (stepsFrom sheet r s) ≤ bound sheet i
+  pub rank : (r s : ℕ) → isCounted sheet i r s ≡ true → sectionLength (stepsFrom sheet r s) ≡ bound sheet i → j ≤ r
+  pub step : (s : ℕ) → isCounted sheet i j s ≡ true → sectionLength (stepsFrom sheet j s) ≡ bound sheet i → k ≤ s
+
+-- It is given by nothing: no section is counted, and the bound is 0.
+pub record GivenByNothing (sheet : Sheet) (i : ℕ) : Type 0 where
+  pub none : (j k : ℕ) → isCounted sheet i j k ≡ false
+  pub zero : bound sheet i ≡ 0
+
+abbrev pub Gives : Sheet → (i : ℕ) → By → Type 0
+Gives sheet i (By.Section j k) = GivenBy sheet i j k
+Gives sheet i By.Nothing = GivenByNothing sheet i
+
+-- The name says what gives the bound, and no other name does.
+abbrev pub NamesWhatGives : Type 0
+NamesWhatGives = (bytes : List ℕ) (sheet : Sheet) → readSheet bytes ≡ read sheet → (i : ℕ) → (x : By)
+    → (boundBy sheet i ≡ x) ↔ Gives sheet i x
 
 -- A point of task i: l times the period of task k, k at most i, l from 1, at most task i's period.
 pub record Point (sheet : Sheet) (i t : ℕ) : Type 0 where

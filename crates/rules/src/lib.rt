@@ -61,16 +61,29 @@ pub struct Ceilings {
     pub ceilings: [u8; 16],
 }
 
+// What gives a bound: nothing, or a section, by the rank of its task and the index of its lock step.
+pub enum By {
+    Nothing,
+    Section(u8, u8),
+}
+
+// A bound, and what gives it.
+pub struct Bound {
+    pub ticks: u16,
+    pub by: By,
+}
+
 // The bound of each task.
 pub struct Bounds {
     pub refusal: Refusal,
-    pub bounds: [u16; 16],
+    pub bounds: [Bound; 16],
 }
 
-// A laxity: its size, and whether it is below zero.
+// A laxity: its size, whether it is below zero, and what gives the bound in it.
 pub struct Laxity {
     pub below: bool,
     pub size: u32,
+    pub by: By,
 }
 
 // The laxity of each task.

@@ -10,10 +10,9 @@ use Rattle.rules.specs.Sheet.{Sheet}
 use Rattle.rules.specs.Reading.{Reading, read, refused, refusal, readSheet}
 use Rattle.rules.specs.Words.{row}
 use Rattle.rules.specs.Choice.{ceiling}
-use Rattle.rules.specs.Bounds.{bound, laxity}
-use Rattle.rules.specs.Answers.{why, made, byRank, signed, check, ceilings, bounds, laxities}
+use Rattle.rules.specs.Answers.{why, made, byRank, noBound, boundOf, noLaxity, laxityOf, check, ceilings, bounds, laxities}
 use Rattle.rules.specs.declared.Refusal.{Refusal}
-use lib.IntN.{pos}
+use Rattle.rules.specs.declared.Bound.{Bound}
 use Rattle.rules.specs.declared.Laxity.{Laxity}
 use Rattle.table.specs.Table.{sheetOf}
 use Rattle.table.proofs.Laws.{tasks-count}
@@ -69,24 +68,24 @@ module _ (bytes : List ℕ) (p : Parsed) (π : ParsedFrom bytes p) where
     unfolding ceilings
     no-ceilings = rw (π .reason, ← turned-away π (replicate 16 0) (λ sheet. row 16 (ceiling sheet)) n) refl
 
-    pub no-bounds : record { refusal = p .refusal; bounds = replicate 16 0 } ≡ bounds bytes
+    pub no-bounds : record { refusal = p .refusal; bounds = replicate 16 noBound } ≡ bounds bytes
     unfolding bounds
-    no-bounds = rw (π .reason, ← turned-away π (replicate 16 0) (byRank 0 bound) n) refl
+    no-bounds = rw (π .reason, ← turned-away π (replicate 16 noBound) (byRank noBound boundOf) n) refl
 
-    pub no-laxities : record { refusal = p .refusal; laxities = replicate 16 (record { below = false; size = 0 }) } ≡ laxities bytes
-    unfolding laxities signed
-    no-laxities = rw (π .reason, ← turned-away π (replicate 16 (signed (pos 0))) (byRank (signed (pos 0)) λ sheet i. signed (laxity sheet i)) n) refl
+    pub no-laxities : record { refusal = p .refusal; laxities = replicate 16 noLaxity } ≡ laxities bytes
+    unfolding laxities
+    no-laxities = rw (π .reason, ← turned-away π (replicate 16 noLaxity) (byRank noLaxity laxityOf) n) refl
 
   module _ (z : p .refusal .number ≡ 0) where
     pub all-ceilings : (cs : List ℕ) → cs ≡ row 16 (ceiling (sheetOf bytes (p .table))) → record { refusal = p .refusal; ceilings = cs } ≡ ceilings bytes
     unfolding ceilings
     all-ceilings cs e = rw (e, π .reason, goes-through π (replicate 16 0) (λ sheet. row 16 (ceiling sheet)) z) refl
 
-    pub all-bounds : (bs : List ℕ) → bs ≡ byRank 0 bound (sheetOf bytes (p .table)) → record { refusal = p .refusal; bounds = bs } ≡ bounds bytes
+    pub all-bounds : (bs : List Bound) → bs ≡ byRank noBound boundOf (sheetOf bytes (p .table)) → record { refusal = p .refusal; bounds = bs } ≡ bounds bytes
     unfolding bounds
-    all-bounds bs e = rw (e, π .reason, goes-through π (replicate 16 0) (byRank 0 bound) z) refl
+    all-bounds bs e = rw (e, π .reason, goes-through π (replicate 16 noBound) (byRank noBound boundOf) z) refl
 
-    pub all-laxities : (ls : List Laxity) → ls ≡ byRank (signed (pos 0)) (λ sheet i. signed (laxity sheet i)) (sheetOf bytes (p .table))
+    pub all-laxities : (ls : List Laxity) → ls ≡ byRank noLaxity laxityOf (sheetOf bytes (p .table))
         → record { refusal = p .refusal; laxities = ls } ≡ laxities bytes
     unfolding laxities
-    all-laxities ls e = rw (e, π .reason, goes-through π (replicate 16 (signed (pos 0))) (byRank (signed (pos 0)) λ sheet i. signed (laxity sheet i)) z) refl
+    all-laxities ls e = rw (e, π .reason, goes-through π (replicate 16 noLaxity) (byRank noLaxity laxityOf) z) refl

@@ -5,7 +5,9 @@ ghost use mathlib.Core.Path.{_≡_};
 ghost use Rattle.rules.specs.Reading.{refusal};
 ghost use Rattle.simulator.specs.Refused.{notTicked, notRun};
 ghost use Rattle.rules.specs.Contracts.{startContract, checkContract, ceilingsContract, boundsContract, laxitiesContract, tickContract, tickInPlaceContract, runContract};
+use rules::Bound;
 use rules::Bounds;
+use rules::By;
 use rules::Ceilings;
 use rules::Checked;
 use rules::Laxities;
@@ -58,16 +60,20 @@ pub fn ceilings(s: &[u8]) -> Ceilings
     }
 }
 
-// The bound of each task.
+// The bound of each task, and what gives it.
 pub fn bounds(s: &[u8]) -> Bounds
     ensures { λ r. ⌜ boundsContract (now (s .entry)) r ⌝ }
 {
     let p = sheet::read_sheet(s);
     let refusal = p.refusal;
     if refusal.number != 0 {
+        let none = Bound {
+            ticks: 0,
+            by: By::Nothing,
+        };
         return Bounds {
             refusal: refusal,
-            bounds: [0; 16],
+            bounds: [none; 16],
         };
     }
     let table = p.table;
@@ -86,13 +92,14 @@ pub fn laxities(s: &[u8]) -> Laxities
     let p = sheet::read_sheet(s);
     let refusal = p.refusal;
     if refusal.number != 0 {
-        let zero = Laxity {
+        let none = Laxity {
             below: false,
             size: 0,
+            by: By::Nothing,
         };
         return Laxities {
             refusal: refusal,
-            laxities: [zero; 16],
+            laxities: [none; 16],
         };
     }
     let table = p.table;

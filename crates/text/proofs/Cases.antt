@@ -2,11 +2,11 @@
 use mathlib.Core.Path.{refl}
 use mathlib.Core.List.{flatMap}
 use Rattle.rules.proofs.Open.{rules}
-use Rattle.text.specs.Text.{digits, decimal, numbered, headLine, jobs, times, signedDecimal, analysis, taskLine, taskLines, tickWord, traceLine, report, refusalLine, printedRun, printed}
+use Rattle.text.specs.Text.{digits, decimal, numbered, headLine, jobs, times, signedDecimal, analysis, givenBy, taskLine, taskLines, tickWord, traceLine, report, refusalLine, printedRun, printed}
 use Rattle.text.specs.Laws.{PrintedA, PrintedF, PrintedB, PrintedNothing, PrintedCut}
 
 unfoldable form : Unit {0}
-unfolding rules flatMap digits decimal numbered headLine jobs times signedDecimal analysis taskLine taskLines tickWord traceLine report refusalLine printedRun printed
+unfolding rules flatMap digits decimal numbered headLine jobs times signedDecimal analysis givenBy taskLine taskLines tickWord traceLine report refusalLine printedRun printed
 form = tt
 
 pub printed-A : PrintedA

@@ -7,16 +7,15 @@ use native.Mathlib.Omega.{arith}
 use lib.ListN.{length, getD, take, drop, replicate, length-replicate}
 use lib.Seq.{take-all, take-at}
 use borrow.Author.Tests.{ltb-false, lt-ltb, le-ltb}
-use lib.IntN.{pos}
 use Rattle.rules.specs.Words.{row}
 use Rattle.rules.specs.Sheet.{Sheet}
 use Rattle.rules.specs.Reading.{Reading, read, refused, refusal, word, _>>=_, refuse_of_at_when_, readSheet}
 use Rattle.rules.specs.Fields.{start}
 use Rattle.rules.specs.Record.{recordAt}
 use Rattle.rules.specs.Run.{after, trace, written}
-use Rattle.rules.specs.Bounds.{bound, laxity}
-use Rattle.rules.specs.Answers.{why, made, byRank, check, bounds, signed, laxities, readRun, ran, bufferAfter}
+use Rattle.rules.specs.Answers.{why, made, byRank, check, noBound, boundOf, bounds, noLaxity, laxityOf, laxities, readRun, ran, bufferAfter}
 use Rattle.rules.specs.declared.State.{State}
+use Rattle.rules.specs.declared.Bound.{Bound}
 use Rattle.rules.specs.declared.Laxity.{Laxity}
 use Rattle.rules.specs.declared.Checked.{Checked}
 use Rattle.rules.specs.declared.Bounds.{Bounds}
@@ -41,7 +40,7 @@ module _ (input : List ℕ) (few : length input ≤ 3163) where
   printed-long h = rw (take-all 3163 input few, le-ltb (length input) 2 h) refl
 
 -- lines of the same bounds and laxities
-lines-same : (n : ℕ) (st : State) (b c : ℕ → ℕ) (x y : ℕ → Laxity) → ((i : ℕ) → i < n → b i ≡ c i) → ((i : ℕ) → i < n → x i ≡ y i)
+lines-same : (n : ℕ) (st : State) (b c : ℕ → Bound) (x y : ℕ → Laxity) → ((i : ℕ) → i < n → b i ≡ c i) → ((i : ℕ) → i < n → x i ≡ y i)
     → taskLines n st b x ≡ taskLines n st c y
 unfolding taskLines row flatMap
 lines-same zero st b c x y p q = refl
@@ -59,7 +58,7 @@ unfolding byRank
 rank-at d f sheet few i l = sym (row-at 16 _ d i (omega arith) ∙ rw (lt-ltb i (length (sheet .tasks)) l) refl)
 
 -- a report of the same bounds, laxities and runners
-report-same : (n : ℕ) (st : State) (b c : ℕ → ℕ) (x y : ℕ → Laxity) (s t : List ℕ) → ((i : ℕ) → i < n → b i ≡ c i) → ((i : ℕ) → i < n → x i ≡ y i) → s ≡ t
+report-same : (n : ℕ) (st : State) (b c : ℕ → Bound) (x y : ℕ → Laxity) (s t : List ℕ) → ((i : ℕ) → i < n → b i ≡ c i) → ((i : ℕ) → i < n → x i ≡ y i) → s ≡ t
     → report n st b x s ≡ report n st c y t
 unfolding report
 report-same n st b c x y s t p q e = ap₂ (λ (l r : List ℕ). headLine (st .t) (st .switches) ++ l ++ traceLine r) (lines-same n st b c x y p q) e
@@ -78,12 +77,12 @@ module _ (bytes : List ℕ) (h : ℕ) (buffer : List ℕ) (enough : 60000 ≤ le
   -- what a sheet that is read prints
   read-prints : (sheet : Sheet) → readSheet bytes ≡ read sheet → readRun bytes h buffer ≡ read sheet
       → printedRun h bytes ≡ report (check bytes .tasks) (ran bytes h buffer .state) (boundAt (bounds bytes .bounds)) (laxityAt (laxities bytes .laxities)) (take h (bufferAfter bytes h buffer))
-  unfolding printedRun made check ran bounds laxities bufferAfter written trace signed
+  unfolding printedRun made check ran bounds laxities bufferAfter written trace
   read-prints sheet e f =
       let few = sheet-few bytes sheet e in
       rw (same-reading, e, f) (report-same (length (sheet .tasks)) (after h sheet start) _ _ _ _ _ _
-      (rank-at 0 bound sheet few)
-      (rank-at (signed (pos 0)) (λ sheet i. signed (laxity sheet i)) sheet few)
+      (rank-at noBound boundOf sheet few)
+      (rank-at noLaxity laxityOf sheet few)
       (sym (take-at (trace h sheet start) (drop h buffer) h (length-row h _))))
 
   -- a run that is read has read its sheet, and its horizon is at most 60,000

@@ -8,11 +8,13 @@ use native.Mathlib.Omega.{arith}
 use native.Mathlib.Numerals.{add-one}
 use lib.ListN.{length, take, drop, set, getD, length-append}
 use lib.Seq.{length-take-le, take-at, drop-at, drop-drop, sets-eq, length-sets, take-suc, take-all}
-use Rattle.text.specs.Buffer.{Put}
-use Rattle.text.specs.Text.{ascii, digit, decimal, signedDecimal, taskLine, taskLines, tickWord}
+use Rattle.text.specs.Buffer.{Put, fieldRoom, givenByRoom}
+use Rattle.text.specs.Text.{ascii, digit, decimal, field, signedDecimal, givenBy, taskLine, taskLines, tickWord}
 use Rattle.rules.specs.Words.{row}
 use Rattle.rules.specs.Record.{recordAt}
 use Rattle.rules.specs.declared.State.{State}
+use Rattle.rules.specs.declared.By.{By}
+use Rattle.rules.specs.declared.Bound.{Bound}
 use Rattle.rules.specs.declared.Laxity.{Laxity}
 use Rattle.text.proofs.Decimal.{decimal-one, decimal-more}
 
@@ -80,6 +82,20 @@ module _ {before after : List ℕ} {cursor next : ℕ} (x : Laxity) where
   unfolding signedDecimal
   laxity-not e p = rw e p
 
+-- what gives a bound
+module _ {before after : List ℕ} {cursor next : ℕ} (by : By) where
+  pub given-none : by ≡ By.Nothing → Put before cursor (ascii " by -") after next
+      → Put before cursor (givenBy by) after next × (next ≤ cursor + givenByRoom)
+  unfolding givenBy
+  given-none e p = (rw e p, omega (arith, p .behind))
+
+  pub given-section : {middle : List ℕ} {between : ℕ} (rank step : ℕ) → by ≡ By.Section rank step
+      → Put before cursor (field " by " rank) middle between → between ≤ cursor + fieldRoom
+      → Put middle between (field "/" step) after next → next ≤ between + fieldRoom
+      → Put before cursor (givenBy by) after next × (next ≤ cursor + givenByRoom)
+  unfolding givenBy
+  given-section rank step e p l q m = (rw e (put-more p q), omega arith)
+
 -- the word of a tick, behind its space
 module _ {before middle after : List ℕ} {cursor between next : ℕ} (x : ℕ) (space : Put before cursor (ascii " ") middle between) where
   pub tick-idle : x ≡ 255 → Put middle between (ascii "-") after next → Put before cursor (tickWord x) after next
@@ -101,7 +117,7 @@ flatMap-more f [] x = append-nil (f x)
 flatMap-more f (y ∷ xs) x = ap (λ (l : List ℕ). f y ++ l) (flatMap-more f xs x) ∙ sym (append-assoc (f y) (flatMap f xs) (f x))
 
 module _ {before middle after : List ℕ} {cursor between next : ℕ} where
-  pub lines-more : (i : ℕ) (st : State) (bounds : ℕ → ℕ) (laxities : ℕ → Laxity) → Put before cursor (taskLines i st bounds laxities) middle between
+  pub lines-more : (i : ℕ) (st : State) (bounds : ℕ → Bound) (laxities : ℕ → Laxity) → Put before cursor (taskLines i st bounds laxities) middle between
       → Put middle between (taskLine i (recordAt (st .tasks) i .counts) (bounds i) (laxities i)) after next
       → Put before cursor (taskLines (i + 1) st bounds laxities) after next
   unfolding taskLines row

@@ -3,7 +3,8 @@ use Prim.Native.Nat.{ℕ, _+_, _*_, _≤_}
 use mathlib.Core.Path.{_≡_}
 use mathlib.Core.List.{List, _++_}
 use lib.ListN.{length, take, drop, getD}
-use mathlib.Core.Bool.{false}
+use Rattle.rules.specs.Answers.{noBound, noLaxity}
+use Rattle.rules.specs.declared.Bound.{Bound}
 use Rattle.rules.specs.declared.Laxity.{Laxity}
 
 -- A text has been put into a buffer at a cursor: there was room for it, it stands there, every other byte is as it was, and
@@ -44,9 +45,12 @@ laxityRoom = 1 + numberRoom
 abbrev pub analysisRoom : ℕ
 analysisRoom = 2 * fieldRoom
 
+abbrev pub givenByRoom : ℕ
+givenByRoom = 2 * fieldRoom
+
 -- The parts of a task line, as they stand in it.
 abbrev pub taskLineRoom : ℕ
-taskLineRoom = numberRoom + jobsRoom + timesRoom + analysisRoom + 1
+taskLineRoom = numberRoom + jobsRoom + timesRoom + analysisRoom + givenByRoom + 1
 
 -- A tick's word in the trace line has a space and at most three bytes; to write it, room for a number is asked.
 abbrev pub tickRoom : ℕ
@@ -63,8 +67,8 @@ abbrev pub refusalLineRoom : ℕ
 refusalLineRoom = lineRoom 3
 
 -- Sixteen answers by rank.
-abbrev pub boundAt : List ℕ → (i : ℕ) → ℕ
-boundAt bounds i = getD bounds i 0
+abbrev pub boundAt : List Bound → (i : ℕ) → Bound
+boundAt bounds i = getD bounds i noBound
 
 abbrev pub laxityAt : List Laxity → (i : ℕ) → Laxity
-laxityAt laxities i = getD laxities i (record { below = false; size = 0 })
+laxityAt laxities i = getD laxities i noLaxity

@@ -9,11 +9,12 @@ use Rattle.rules.specs.Reading.{refusal, word}
 use Rattle.rules.specs.Fields.{start}
 use Rattle.rules.specs.Record.{recordAt}
 use Rattle.rules.specs.Run.{after, trace}
-use Rattle.rules.specs.Bounds.{bound, laxity}
-use Rattle.rules.specs.Answers.{why, made, signed, readRun}
+use Rattle.rules.specs.Answers.{why, made, boundOf, laxityOf, readRun}
 use Rattle.rules.specs.declared.Counts.{Counts}
 use Rattle.rules.specs.declared.State.{State}
 use Rattle.rules.specs.declared.Refusal.{Refusal}
+use Rattle.rules.specs.declared.By.{By}
+use Rattle.rules.specs.declared.Bound.{Bound}
 use Rattle.rules.specs.declared.Laxity.{Laxity}
 
 -- A quoted text as its bytes.
@@ -57,15 +58,20 @@ times c = field " ran " (c .ran) ++ field " blocked " (c .blocked) ++ field " wo
 unfoldable pub signedDecimal : Laxity → List ℕ
 signedDecimal x = (if x .below then ascii "-" else []) ++ decimal (x .size)
 
--- its bound and its laxity.
-unfoldable pub analysis : (bound : ℕ) (laxity : Laxity) → List ℕ
-analysis bound laxity = field " bound " bound ++ ascii " laxity " ++ signedDecimal laxity
+-- its bound and its laxity;
+unfoldable pub analysis : Bound → Laxity → List ℕ
+analysis bound laxity = field " bound " (bound .ticks) ++ ascii " laxity " ++ signedDecimal laxity
+
+-- what gives the bound: a section, by rank and lock step, or nothing.
+unfoldable pub givenBy : By → List ℕ
+givenBy (By.Section rank step) = field " by " rank ++ field "/" step
+givenBy By.Nothing = ascii " by -"
 
 -- One line per rank, first field the rank.
-unfoldable pub taskLine : (i : ℕ) → Counts → (bound : ℕ) (laxity : Laxity) → List ℕ
-taskLine i c bound laxity = decimal i ++ jobs c ++ times c ++ analysis bound laxity ++ ascii "\n"
+unfoldable pub taskLine : (i : ℕ) → Counts → Bound → Laxity → List ℕ
+taskLine i c bound laxity = decimal i ++ jobs c ++ times c ++ analysis bound laxity ++ givenBy (bound .by) ++ ascii "\n"
 
-unfoldable pub taskLines : (n : ℕ) → State → (bounds : ℕ → ℕ) (laxities : ℕ → Laxity) → List ℕ
+unfoldable pub taskLines : (n : ℕ) → State → (bounds : ℕ → Bound) (laxities : ℕ → Laxity) → List ℕ
 taskLines n st bounds laxities = flatMap (λ i. taskLine i (recordAt (st .tasks) i .counts) (bounds i) (laxities i)) (row n λ i. i)
 
 -- The trace line has one word for each tick: the runner's rank, "-" for idle, "!" for 254.
@@ -76,7 +82,7 @@ unfoldable pub traceLine : (runners : List ℕ) → List ℕ
 traceLine runners = ascii "trace" ++ flatMap tickWord runners ++ ascii "\n"
 
 -- An accepted run of n tasks prints these, whole.
-unfoldable pub report : (n : ℕ) → State → (bounds : ℕ → ℕ) (laxities : ℕ → Laxity) (runners : List ℕ) → List ℕ
+unfoldable pub report : (n : ℕ) → State → (bounds : ℕ → Bound) (laxities : ℕ → Laxity) (runners : List ℕ) → List ℕ
 report n st bounds laxities runners = headLine (st .t) (st .switches) ++ taskLines n st bounds laxities ++ traceLine runners
 
 -- A refusal prints this alone.
@@ -88,7 +94,7 @@ unfoldable pub printedRun : (horizon : ℕ) (bytes : List ℕ) → List ℕ
 printedRun h bytes =
     let r = readRun bytes h (replicate h 0) in
     made r (refusalLine (why r)) λ sheet.
-    report (length (sheet .tasks)) (after h sheet start) (bound sheet) (λ i. signed (laxity sheet i)) (trace h sheet start)
+    report (length (sheet .tasks)) (after h sheet start) (boundOf sheet) (laxityOf sheet) (trace h sheet start)
 
 -- WHAT IS PRINTED for the bytes on standard input: a 16-bit big-endian horizon and then a sheet; at most 3,163 bytes are
 -- taken. Input under two bytes is refusal 1.

@@ -1,6 +1,8 @@
 // What the printing program prints, put into a buffer that the caller lends. Each function puts a text at a cursor and
 // answers the cursor behind it; what the texts are stands in specs/Text.antt, and the room that they ask for in
 // specs/Buffer.antt.
+use rules::Bound;
+use rules::By;
 use rules::Counts;
 use rules::Laxity;
 use rules::Refusal;
@@ -9,9 +11,9 @@ ghost use Prim.Native.Nat.{_+_, _*_, _≤_, _<_};
 ghost use mathlib.Core.Path.{_≡_};
 ghost use mathlib.Core.List.{[], _∷_};
 ghost use lib.ListN.{length, take};
-ghost use Rattle.text.specs.Buffer.{Put, boundAt, laxityAt, wordRoom, numberRoom, fieldRoom, headLineRoom, jobsRoom, timesRoom, laxityRoom, analysisRoom, taskLineRoom, tickRoom, traceLineRoom, reportRoom, refusalLineRoom};
+ghost use Rattle.text.specs.Buffer.{Put, boundAt, laxityAt, wordRoom, numberRoom, fieldRoom, headLineRoom, jobsRoom, timesRoom, laxityRoom, analysisRoom, givenByRoom, taskLineRoom, tickRoom, traceLineRoom, reportRoom, refusalLineRoom};
 ghost use Rattle.text.specs.Text.{digit as Text·digit};
-ghost use Rattle.text.specs.Text.{decimal, numbered, headLine, jobs, times, signedDecimal, analysis, taskLine, taskLines, traceLine, report, refusalLine, tickWord};
+ghost use Rattle.text.specs.Text.{decimal, numbered, headLine, jobs, times, signedDecimal, analysis, givenBy, taskLine, taskLines, traceLine, report, refusalLine, tickWord};
 
 fn put_byte(out: &mut [u8], at: usize, b: u8) -> usize
     requires { ⌜ at < length (now out) ⌝ }
@@ -106,17 +108,37 @@ fn put_laxity(out: &mut [u8], at: usize, x: Laxity) -> usize
     put_number(out, at, x.size)
 }
 
-fn put_analysis(out: &mut [u8], at: usize, bound: u16, laxity: Laxity) -> usize
+fn put_analysis(out: &mut [u8], at: usize, bound: Bound, laxity: Laxity) -> usize
     requires { ⌜ at + analysisRoom ≤ length (now out) ⌝ }
     ensures { λ r. ⌜ Put (now (out .entry)) at (analysis bound laxity) (now (out .exit)) r ⌝ }
     ensures { λ r. ⌜ r ≤ at + analysisRoom ⌝ }
 {
-    let next = put_field(out, at, b" bound ", bound);
+    let next = put_field(out, at, b" bound ", bound.ticks);
     let next = put_text(out, next, b" laxity ");
     put_laxity(out, next, laxity)
 }
 
-fn put_task_line(out: &mut [u8], at: usize, i: u32, c: Counts, bound: u16, laxity: Laxity) -> usize
+// What gives a bound: a section, by rank and lock step, or nothing.
+fn put_given_by(out: &mut [u8], at: usize, by: By) -> usize
+    requires { ⌜ at + givenByRoom ≤ length (now out) ⌝ }
+    ensures { λ r. ⌜ Put (now (out .entry)) at (givenBy by) (now (out .exit)) r ⌝ }
+    ensures { λ r. ⌜ r ≤ at + givenByRoom ⌝ }
+{
+    let By::Section(rank, step) = by else {
+        return put_text(out, at, b" by -");
+    };
+    let next = put_field(out, at, b" by ", rank as u16);
+    put_field(out, next, b"/", step as u16)
+}
+
+fn put_task_line(
+    out: &mut [u8],
+    at: usize,
+    i: u32,
+    c: Counts,
+    bound: Bound,
+    laxity: Laxity,
+) -> usize
     requires { ⌜ at + taskLineRoom ≤ length (now out) ⌝ }
     ensures { λ r. ⌜ Put (now (out .entry)) at (taskLine i c bound laxity) (now (out .exit)) r ⌝ }
     ensures { λ r. ⌜ r ≤ at + taskLineRoom ⌝ }
@@ -125,6 +147,8 @@ fn put_task_line(out: &mut [u8], at: usize, i: u32, c: Counts, bound: u16, laxit
     let next = put_jobs(out, next, c);
     let next = put_times(out, next, c);
     let next = put_analysis(out, next, bound, laxity);
+    let by = bound.by;
+    let next = put_given_by(out, next, by);
     put_byte(out, next, b'\n')
 }
 
@@ -134,7 +158,7 @@ fn put_task_lines(
     at: usize,
     n: usize,
     st: State,
-    bounds: [u16; 16],
+    bounds: [Bound; 16],
     laxities: [Laxity; 16],
 ) -> usize
     requires { ⌜ n ≤ 16 ⌝ }
@@ -147,8 +171,9 @@ fn put_task_lines(
     while i < n {
         let task = st.tasks[i];
         let counts = task.counts;
+        let bound = bounds[i];
         let laxity = laxities[i];
-        next = put_task_line(out, next, i as u32, counts, bounds[i], laxity);
+        next = put_task_line(out, next, i as u32, counts, bound, laxity);
         i += 1;
     }
     next
@@ -192,7 +217,7 @@ pub fn put_report(
     at: usize,
     n: usize,
     st: State,
-    bounds: [u16; 16],
+    bounds: [Bound; 16],
     laxities: [Laxity; 16],
     trace: &[u8],
     h: usize,

@@ -5,7 +5,7 @@ use mathlib.Core.Logic.{inl}
 use mathlib.Core.List.{List}
 use native.Mathlib.Omega.{arith}
 use Rattle.rules.specs.Reading.{Reading, read, refused, readSheet}
-use Rattle.rules.specs.Answers.{why, made, signed, check, ceilings, bounds, laxities, readTick, ticked, told, recordAfter, readRun, ran, bufferAfter}
+use Rattle.rules.specs.Answers.{why, made, check, ceilings, bounds, laxities, readTick, ticked, told, recordAfter, readRun, ran, bufferAfter}
 use Rattle.rules.specs.Fields.{start}
 use Rattle.rules.specs.declared.State.{State}
 use Rattle.rules.specs.declared.Ran.{Ran}
@@ -78,7 +78,7 @@ bounded = record {
 }
 
 pub laxed : Defined laxitiesCall
-unfolding laxities why made signed
+unfolding laxities why made
 laxed = record {
   value = laxities;
   permitted = λ bytes. refl;

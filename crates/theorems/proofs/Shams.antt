@@ -12,7 +12,7 @@ use Rattle.rules.specs.Fields.{start}
 use Rattle.rules.specs.Record.{recordAt}
 use Rattle.rules.specs.Tick.{closed, tick}
 use Rattle.rules.specs.Run.{after}
-use Rattle.rules.specs.Answers.{check, ceilings, bounds, laxities, ticked, told, recordAfter, ran, bufferAfter}
+use Rattle.rules.specs.Answers.{noBound, noLaxity, check, ceilings, bounds, laxities, ticked, told, recordAfter, ran, bufferAfter}
 use Rattle.rules.specs.Cases.{A, A3, D}
 use Rattle.rules.specs.declared.TaskRecord.{TaskRecord}
 use Rattle.rules.specs.declared.State.{State}
@@ -22,7 +22,7 @@ use Rattle.rules.specs.declared.Ran.{Ran}
 use Rattle.rules.proofs.Open.{rules}
 use Rattle.theorems.specs.Refusals.{NotRefused}
 use Rattle.theorems.specs.Demand3.{Accepted}
-use Rattle.theorems.specs.NoFreedom.{Call, checkCall, ceilingsCall, boundsCall, laxitiesCall, noLaxity, tickCall, tickInPlaceCall, runCall, Settled}
+use Rattle.theorems.specs.NoFreedom.{Call, checkCall, ceilingsCall, boundsCall, laxitiesCall, tickCall, tickInPlaceCall, runCall, Settled}
 use Rattle.theorems.specs.Runs.{called}
 use Rattle.theorems.specs.Shams.{Function, Meets, Caught, RefusingAndFixed, Touched, FixedAfterEach, NotAllAtOnce, SwitchesFixed, BlockedFixed, one, switchNow, blockedNow, blockedOf}
 use Rattle.theorems.proofs.Answers.{one-sheet, tick-goes, run-goes}
@@ -75,7 +75,7 @@ refusingAndFixed =
     and caught boundsCall (settled boundsCall bounded)
     (through boundsCall (D .sheet) (bounds (D .sheet)) refl refl)
     (through boundsCall (A .sheet) (bounds (A .sheet)) refl refl)
-    (λ r. getD (r .bounds) 0 0) refl
+    (λ r. getD (r .bounds) 0 noBound .ticks) refl
     and caught laxitiesCall (settled laxitiesCall laxed)
     (through laxitiesCall (D .sheet) (laxities (D .sheet)) refl refl)
     (through laxitiesCall (A .sheet) (laxities (A .sheet)) refl refl)

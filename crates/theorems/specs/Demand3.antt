@@ -10,7 +10,7 @@ use Rattle.rules.specs.Fields.{start}
 use Rattle.rules.specs.Record.{recordAt, possible}
 use Rattle.rules.specs.Choice.{locks}
 use Rattle.rules.specs.Run.{after}
-use Rattle.rules.specs.Bounds.{bound, laxity}
+use Rattle.rules.specs.Bounds.{bound, boundBy, laxity}
 use Rattle.rules.specs.Answers.{ran, ticked, told, recordAfter}
 use Rattle.rules.specs.declared.State.{State}
 use Rattle.theorems.specs.Refusals.{NotRefused}
@@ -96,7 +96,7 @@ OfTicksInPlace = (k : ℕ) (bytes bytes′ : List ℕ) (sheet sheet′ : Sheet) 
     → NotRefused (told bytes st .refusal) → NotRefused (told bytes′ st′ .refusal)
     → Agree k (recordAfter bytes st) (recordAfter bytes′ st′)
 
--- AND FOR THE ANALYSIS. The bound and the laxity of each of the k tasks are the same.
+-- AND FOR THE ANALYSIS. The bound of each of the k tasks, what gives it, and the laxity are the same.
 abbrev pub OfAnalysis : Type 0
 OfAnalysis = (k : ℕ) (bytes bytes′ : List ℕ) (sheet sheet′ : Sheet) → Premises k bytes bytes′ sheet sheet′
-    → (i : ℕ) → i < k → (bound sheet i ≡ bound sheet′ i) × (laxity sheet i ≡ laxity sheet′ i)
+    → (i : ℕ) → i < k → (bound sheet i ≡ bound sheet′ i) × (boundBy sheet i ≡ boundBy sheet′ i) × (laxity sheet i ≡ laxity sheet′ i)

@@ -3,9 +3,9 @@
 use Prim.Native.Nat.{ℕ}
 use mathlib.Core.Path.{_≡_}
 use mathlib.Core.List.{List, [], _∷_}
-use mathlib.Core.Bool.{false}
 use lib.ListN.{replicate}
 use Rattle.rules.specs.Fields.{noState}
+use Rattle.rules.specs.Answers.{noBound, noLaxity}
 use Rattle.rules.specs.Contracts.{startContract, checkContract, ceilingsContract, boundsContract, laxitiesContract, tickContract, tickInPlaceContract, runContract}
 use Rattle.rules.specs.Reading.{refusal}
 use Rattle.rules.specs.declared.State.{State}
@@ -13,7 +13,6 @@ use Rattle.rules.specs.declared.Refusal.{Refusal}
 use Rattle.rules.specs.declared.Checked.{Checked}
 use Rattle.rules.specs.declared.Ceilings.{Ceilings}
 use Rattle.rules.specs.declared.Bounds.{Bounds}
-use Rattle.rules.specs.declared.Laxity.{Laxity}
 use Rattle.rules.specs.declared.Laxities.{Laxities}
 use Rattle.rules.specs.declared.Ticked.{Ticked}
 use Rattle.rules.specs.declared.Told.{Told}
@@ -57,13 +56,10 @@ boundsCall = record {
   Outcome = Bounds;
   permits = boundsContract;
   refusal = λ r. r .refusal;
-  nothingBut = λ bytes x. record { refusal = x; bounds = replicate 16 0 };
+  nothingBut = λ bytes x. record { refusal = x; bounds = replicate 16 noBound };
 }
 
 -- laxities(sheet)
-abbrev pub noLaxity : Laxity
-noLaxity = record { below = false; size = 0 }
-
 abbrev pub laxitiesCall : Call
 laxitiesCall = record {
   Input = List ℕ;

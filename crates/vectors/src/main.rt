@@ -6,6 +6,7 @@ ghost use Prim.Native.Nat.{_<_, _≤_};
 ghost use mathlib.Core.Path.{_≡_};
 ghost use lib.ListN.{length};
 ghost use Rattle.io.specs.Counts.{Counts};
+use rules::Bound;
 use rules::Laxity;
 
 // The first place at or behind `from` that has this byte; the end where there is none.
@@ -99,11 +100,13 @@ fn print_check(name: &[u8], sheet: &[u8]) {
     wire::end_line();
 }
 
-fn print_rank(name: &[u8], rank: usize, bound: u16, laxity: Laxity) {
+fn print_rank(name: &[u8], rank: usize, bound: Bound, laxity: Laxity) {
     wire::write(name);
     wire::print(b": rank ", rank as u64);
-    wire::print(b" bound ", bound as u64);
+    wire::print(b" bound ", bound.ticks as u64);
     wire::print_laxity(b" laxity ", laxity);
+    let by = bound.by;
+    wire::print_by(b" by ", by);
     wire::end_line();
 }
 

@@ -3,6 +3,7 @@
 ghost use Prim.Native.Nat.{_<_, _≤_};
 ghost use lib.ListN.{length};
 use libc::STDOUT_FILENO;
+use rules::By;
 use rules::Counts;
 use rules::Job;
 use rules::Laxity;
@@ -167,6 +168,17 @@ pub fn print_laxity(name: &[u8], x: Laxity) {
         write(b"-");
     }
     print(b"", x.size as u64);
+}
+
+// What gives a bound: rank and lock step, or nothing.
+pub fn print_by(name: &[u8], by: By) {
+    write(name);
+    let By::Section(rank, step) = by else {
+        write(b"-");
+        return;
+    };
+    print(b"", rank as u64);
+    print(b"/", step as u64);
 }
 
 fn wide(x: u8) -> u64 {

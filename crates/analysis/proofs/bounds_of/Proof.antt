@@ -1,17 +1,17 @@
--- Rank by rank the array gets the bounds, which fit 16 bits; behind the last task it stays 0.
+-- Rank by rank the array gets the bounds; behind the last task it stays zero and by nothing.
 use Prim.Native.Nat.{_-_, _≤_}
 use native.Mathlib.Omega.{arith}
 use borrow.Author.Needs.{needs}
-use Rattle.rules.specs.Bounds.{bound}
+use Rattle.rules.specs.Answers.{boundOf, noBound}
 use Rattle.table.specs.Table.{sheetOf}
 use Rattle.analysis.proofs.Laws.{Filled, filled-none, filled-turn}
-use Rattle.analysis.proofs.Bounds.{bound-fits, bounds-end}
+use Rattle.analysis.proofs.Bounds.{bounds-end}
 use Rattle.analysis.proofs.bounds_of.Statement.{statement}
 use Rattle.analysis.proofs.bounds_of.Tie as tie
 
--- the ranks before i have their bound, and the others 0
+-- the ranks before i have their bound, and the others none
 abbrev Inv-loop : tie.InvT-loop
-Inv-loop s table cs n bounds₀ i₀ bounds i = (i ≤ n) × (n ≤ 16) × Filled 0 (bound (sheetOf s table)) i bounds
+Inv-loop s table cs n bounds₀ i₀ bounds i = (i ≤ n) × (n ≤ 16) × Filled noBound (boundOf (sheetOf s table)) i bounds
 
 abbrev μ-loop : tie.MeasureT-loop
 μ-loop s table cs n bounds₀ i₀ bounds i = n - i
@@ -20,19 +20,16 @@ cast-n : tie.Need-cast-n Inv-loop μ-loop
 cast-n c = search needs
 
 loop-holds : tie.Need-loop-holds Inv-loop μ-loop
-loop-holds c = (search needs, search needs, filled-none 0 _)
+loop-holds c = (search needs, search needs, filled-none noBound _)
 
 bound-of-requires : tie.Need-bound-of-requires Inv-loop μ-loop
 bound-of-requires c κs = search needs
 
-cast-bounds : tie.Need-cast-bounds Inv-loop μ-loop
-cast-bounds c = search bound-fits
-
 mul-bounds : tie.Need-mul-bounds Inv-loop μ-loop
 mul-bounds c = search needs
 
-array-write-bounds : tie.Need-array-write-bounds Inv-loop μ-loop
-array-write-bounds c = search needs
+array-set-from-bounds : tie.Need-array-set-from-bounds Inv-loop μ-loop
+array-set-from-bounds c = search needs
 
 add-i : tie.Need-add-i Inv-loop μ-loop
 add-i c = search needs
@@ -41,7 +38,7 @@ loop-less : tie.Need-loop-less Inv-loop μ-loop
 loop-less c = search needs
 
 loop-again : tie.Need-loop-again Inv-loop μ-loop
-loop-again c = (search needs, search needs, filled-turn 0 _ _ _ (c .before .before .loop .inv .2) _ (omega arith) (c .bound-of .ensures))
+loop-again c = (search needs, search needs, filled-turn noBound _ _ _ (c .before .before .loop .inv .2) _ (omega arith) (c .bound-of .ensures))
 
 returns : tie.Need-returns Inv-loop μ-loop
 returns c = search bounds-end
@@ -55,9 +52,8 @@ bounds-of-spec =
     cast-n
     loop-holds
     bound-of-requires
-    cast-bounds
     mul-bounds
-    array-write-bounds
+    array-set-from-bounds
     add-i
     loop-less
     loop-again

@@ -3,9 +3,8 @@ use Prim.Native.Nat.{_-_, _≤_}
 use native.Mathlib.Omega.{arith}
 use borrow.Author.Needs.{needs}
 use lib.ListN.{getD}
-use lib.IntN.{pos}
-use Rattle.rules.specs.Answers.{signed}
-use Rattle.analysis.specs.Laxity.{laxityFrom}
+use Rattle.rules.specs.Answers.{noBound, noLaxity}
+use Rattle.analysis.specs.Laxity.{ofRank}
 use Rattle.analysis.proofs.Laws.{Filled, filled-none, filled-turn}
 use Rattle.analysis.proofs.Laxity.{periods-first, laxities-end}
 use Rattle.analysis.proofs.laxities_from.Statement.{statement}
@@ -13,20 +12,19 @@ use Rattle.analysis.proofs.laxities_from.Tie as tie
 
 -- the ranks before i have their laxity, and the others zero
 abbrev Inv-loop : tie.InvT-loop
-Inv-loop costs periods n bounds laxities₀ i₀ laxities i = (i ≤ n) × Filled (signed (pos 0)) (λ i. signed (laxityFrom costs periods (getD bounds i 0) i)) i laxities
+Inv-loop costs periods n bounds laxities₀ i₀ laxities i = (i ≤ n) × Filled noLaxity (λ i. ofRank costs periods (getD bounds i noBound) i) i laxities
 
 abbrev μ-loop : tie.MeasureT-loop
 μ-loop costs periods n bounds laxities₀ i₀ laxities i = n - i
 
 loop-holds : tie.Need-loop-holds Inv-loop μ-loop
-unfolding signed
 loop-holds c = (search needs, filled-none _ _)
 
-mul-laxity-from : tie.Need-mul-laxity-from Inv-loop μ-loop
-mul-laxity-from c = search needs
+mul-b : tie.Need-mul-b Inv-loop μ-loop
+mul-b c = search needs
 
-array-read-laxity-from : tie.Need-array-read-laxity-from Inv-loop μ-loop
-array-read-laxity-from c = search needs
+array-copy-out-b : tie.Need-array-copy-out-b Inv-loop μ-loop
+array-copy-out-b c = search needs
 
 laxity-from-requires : tie.Need-laxity-from-requires Inv-loop μ-loop
 laxity-from-requires c κs = search periods-first
@@ -44,7 +42,7 @@ loop-less : tie.Need-loop-less Inv-loop μ-loop
 loop-less c = search needs
 
 loop-again : tie.Need-loop-again Inv-loop μ-loop
-loop-again c = (search needs, filled-turn _ _ _ _ (c .before .before .loop .inv .1) _ (omega arith) (c .laxity-from .ensures))
+loop-again c = (search needs, filled-turn _ _ _ _ (c .before .before .before .loop .inv .1) _ (omega arith) (c .laxity-from .ensures))
 
 returns : tie.Need-returns Inv-loop μ-loop
 returns c = search laxities-end
@@ -56,8 +54,8 @@ laxities-from-spec =
     Inv-loop
     μ-loop
     loop-holds
-    mul-laxity-from
-    array-read-laxity-from
+    mul-b
+    array-copy-out-b
     laxity-from-requires
     mul-laxities
     array-set-from-laxities

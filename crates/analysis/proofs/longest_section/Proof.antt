@@ -4,16 +4,15 @@ use mathlib.Core.Path.{_≡_, refl}
 use borrow.Author.Needs.{needs}
 use lib.ListN.{drop}
 use Rattle.rules.specs.Words.{largest}
-use Rattle.rules.specs.Bounds.{sectionLength}
 use Rattle.table.specs.Table.{taskOf}
-use Rattle.analysis.specs.Steps.{atMost}
+use Rattle.analysis.specs.Steps.{atMost, lengthHere}
 use Rattle.analysis.proofs.Laws.{largest-turn, largest-end}
 use Rattle.analysis.proofs.longest_section.Statement.{statement}
 use Rattle.analysis.proofs.longest_section.Tie as tie
 
 -- the longest of the sections that begin before k
 abbrev Inv-loop : tie.InvT-loop
-Inv-loop s e cs i longest₀ k₀ longest k = (k ≤ 64) × (longest ≡ largest k (λ k. sectionLength (atMost cs i) (drop k (taskOf s e .steps))))
+Inv-loop s e cs i longest₀ k₀ longest k = (k ≤ 64) × (longest ≡ largest k (λ k. lengthHere (atMost cs i) (drop k (taskOf s e .steps))))
 
 abbrev μ-loop : tie.MeasureT-loop
 μ-loop s e cs i longest₀ k₀ longest k = 64 - k
@@ -22,8 +21,8 @@ loop-holds : tie.Need-loop-holds Inv-loop μ-loop
 unfolding largest
 loop-holds c = (search needs, refl)
 
-section-length-requires : tie.Need-section-length-requires Inv-loop μ-loop
-section-length-requires c κs = search needs
+counted-length-requires : tie.Need-counted-length-requires Inv-loop μ-loop
+counted-length-requires c κs = search needs
 
 larger-requires : tie.Need-larger-requires Inv-loop μ-loop
 larger-requires c κs = search needs
@@ -47,7 +46,7 @@ longest-section-spec =
     Inv-loop
     μ-loop
     loop-holds
-    section-length-requires
+    counted-length-requires
     larger-requires
     add-k
     loop-less

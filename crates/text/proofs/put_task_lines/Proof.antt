@@ -28,6 +28,12 @@ mul-task c = omega arith
 element-copy-out-task : tie.Need-element-copy-out-task Inv-loop μ-loop
 element-copy-out-task c = omega arith
 
+mul-bound : tie.Need-mul-bound Inv-loop μ-loop
+mul-bound c = omega arith
+
+array-copy-out-bound : tie.Need-array-copy-out-bound Inv-loop μ-loop
+array-copy-out-bound c = omega arith
+
 mul-laxity : tie.Need-mul-laxity Inv-loop μ-loop
 mul-laxity c = omega arith
 
@@ -37,14 +43,8 @@ array-copy-out-laxity c = omega arith
 cast-put-task-line : tie.Need-cast-put-task-line Inv-loop μ-loop
 cast-put-task-line c = omega arith
 
-mul-put-task-line : tie.Need-mul-put-task-line Inv-loop μ-loop
-mul-put-task-line c = omega arith
-
-array-read-put-task-line : tie.Need-array-read-put-task-line Inv-loop μ-loop
-array-read-put-task-line c = omega arith
-
 put-task-line-requires : tie.Need-put-task-line-requires Inv-loop μ-loop
-put-task-line-requires c κs = omega (arith, put-length (c .before .before .before .before .before .loop .inv .1))
+put-task-line-requires c κs = omega (arith, put-length (c .before .before .before .before .before .before .loop .inv .1))
 
 add-i : tie.Need-add-i Inv-loop μ-loop
 add-i c = omega arith
@@ -55,7 +55,7 @@ loop-less c = omega arith
 loop-again : tie.Need-loop-again Inv-loop μ-loop
 unfolding recordAt
 loop-again c =
-    let at-loop = c .before .before .before .before .before .before .before .before in
+    let at-loop = c .before .before .before .before .before .before .before .before .before in
     let l = at-loop .loop in
     let line = c .before .before .put-task-line in
     let args = at-loop .before .before .args in
@@ -80,11 +80,11 @@ put-task-lines-spec =
     loop-holds
     mul-task
     element-copy-out-task
+    mul-bound
+    array-copy-out-bound
     mul-laxity
     array-copy-out-laxity
     cast-put-task-line
-    mul-put-task-line
-    array-read-put-task-line
     put-task-line-requires
     add-i
     loop-less

@@ -28,8 +28,8 @@ loop-holds c = search needs
 mul-bound : tie.Need-mul-bound Inv-loop μ-loop
 mul-bound c = search needs
 
-array-read-bound : tie.Need-array-read-bound Inv-loop μ-loop
-array-read-bound c = search needs
+array-copy-out-bound : tie.Need-array-copy-out-bound Inv-loop μ-loop
+array-copy-out-bound c = search needs
 
 mul-laxity : tie.Need-mul-laxity Inv-loop μ-loop
 mul-laxity c = search needs
@@ -64,7 +64,7 @@ print-analysis-spec =
     ranks-of-requires
     loop-holds
     mul-bound
-    array-read-bound
+    array-copy-out-bound
     mul-laxity
     array-copy-out-laxity
     print-rank-requires

@@ -1,20 +1,14 @@
--- `laxities` is safe and ends: sixteen numbers are printed.
+-- `print_bounds_by` is safe and ends: sixteen names are printed.
 use Prim.Native.Nat.{_-_, _≤_}
 use borrow.Author.Needs.{needs}
-use Rattle.calls.proofs.laxities.Statement.{statement}
-use Rattle.calls.proofs.laxities.Tie as tie
+use Rattle.calls.proofs.print_bounds_by.Statement.{statement}
+use Rattle.calls.proofs.print_bounds_by.Tie as tie
 
 abbrev Inv-loop : tie.InvT-loop
-Inv-loop sheet values i₀ t8 i = i ≤ 16
+Inv-loop values i₀ t7 i = i ≤ 16
 
 abbrev μ-loop : tie.MeasureT-loop
-μ-loop sheet values i₀ t8 i = 16 - i
-
-laxities-requires : tie.Need-laxities-requires Inv-loop μ-loop
-laxities-requires c κs = search needs
-
-print-refusal-requires : tie.Need-print-refusal-requires Inv-loop μ-loop
-print-refusal-requires c κs = search needs
+μ-loop values i₀ t7 i = 16 - i
 
 slice-aggregate-write : tie.Need-slice-aggregate-write Inv-loop μ-loop
 slice-aggregate-write c = search needs
@@ -31,11 +25,11 @@ mul-x c = search needs
 array-copy-out-x : tie.Need-array-copy-out-x Inv-loop μ-loop
 array-copy-out-x c = search needs
 
-slice-aggregate-print-laxity : tie.Need-slice-aggregate-print-laxity Inv-loop μ-loop
-slice-aggregate-print-laxity c = search needs
+slice-aggregate-print-by : tie.Need-slice-aggregate-print-by Inv-loop μ-loop
+slice-aggregate-print-by c = search needs
 
-print-laxity-requires : tie.Need-print-laxity-requires Inv-loop μ-loop
-print-laxity-requires c κs = search needs
+print-by-requires : tie.Need-print-by-requires Inv-loop μ-loop
+print-by-requires c κs = search needs
 
 add-i : tie.Need-add-i Inv-loop μ-loop
 add-i c = search needs
@@ -52,21 +46,19 @@ end-line-requires c κs = search needs
 returns : tie.Need-returns Inv-loop μ-loop
 returns c = search needs
 
-pub laxities-spec : {M : Type 1} → statement M
-laxities-spec =
+pub print-bounds-by-spec : {M : Type 1} → statement M
+print-bounds-by-spec =
     tie.close
     (tie.spec
     Inv-loop
     μ-loop
-    laxities-requires
-    print-refusal-requires
     slice-aggregate-write
     write-requires
     loop-holds
     mul-x
     array-copy-out-x
-    slice-aggregate-print-laxity
-    print-laxity-requires
+    slice-aggregate-print-by
+    print-by-requires
     add-i
     loop-less
     loop-again
