@@ -8,7 +8,8 @@ pub const STUCK: u8 = 254;
 /// The runner of a tick in which nobody is pending.
 pub const IDLE: u8 = 255;
 
-const RECORD_HEAD: usize = 5;
+/// Bytes of a record before those of its tasks.
+pub const RECORD_HEAD: usize = 7;
 const TASK_BYTES: usize = 18;
 /// Bytes of a whole record.
 pub const RECORD_BYTES: usize = RECORD_HEAD + SIXTEEN * TASK_BYTES;
@@ -31,11 +32,33 @@ pub struct TaskRecord {
     pub worst: u16,
 }
 
+/// A job, told apart from the others of its task by its tick of release.
+#[derive(Clone, Copy, Debug, Default, PartialEq, Eq)]
+pub struct Job {
+    pub rank: u8,
+    pub release: u16,
+}
+
+/// What is remembered while no job has run.
+pub const NO_JOB: Job = Job {
+    rank: 255,
+    release: 0,
+};
+
+impl Job {
+    /// Whether this can be the job remembered before tick `t`, of `n` tasks.
+    fn possible(&self, n: usize, t: u16) -> bool {
+        let ran_before = self.release < t || wrong::REMEMBERED_TICK;
+        *self == NO_JOB || (usize::from(self.rank) < n && ran_before)
+    }
+}
+
 #[derive(Clone, Copy, Debug, Default, PartialEq, Eq)]
 pub struct Record {
     pub t: u16,
     pub switches: u16,
-    pub last_runner: u8,
+    /// The job that ran last, however long ago.
+    pub last: Job,
     pub tasks: [TaskRecord; SIXTEEN],
 }
 
@@ -143,7 +166,7 @@ impl Record {
         Self {
             t: 0,
             switches: 0,
-            last_runner: IDLE,
+            last: NO_JOB,
             tasks: [TaskRecord::default(); SIXTEEN],
         }
     }
@@ -157,7 +180,10 @@ impl Record {
         Self {
             t: u16::from_be_bytes([head[0], head[1]]),
             switches: u16::from_be_bytes([head[2], head[3]]),
-            last_runner: head[4],
+            last: Job {
+                rank: head[4],
+                release: u16::from_be_bytes([head[5], head[6]]),
+            },
             tasks,
         }
     }
@@ -166,7 +192,8 @@ impl Record {
         let mut bytes = Vec::with_capacity(RECORD_BYTES);
         bytes.extend(self.t.to_be_bytes());
         bytes.extend(self.switches.to_be_bytes());
-        bytes.push(self.last_runner);
+        bytes.push(self.last.rank);
+        bytes.extend(self.last.release.to_be_bytes());
         for task in &self.tasks {
             task.write_to(&mut bytes);
         }
@@ -179,7 +206,7 @@ impl Record {
         let (used, unused) = self.tasks.split_at(n);
         self.t <= LAST_TICK
             && (self.switches <= self.t || wrong::SWITCHES_FREE)
-            && (usize::from(self.last_runner) < n || self.last_runner >= STUCK)
+            && self.last.possible(n, self.t)
             && unused.iter().all(|task| *task == TaskRecord::default())
             && used
                 .iter()

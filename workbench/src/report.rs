@@ -226,8 +226,8 @@ fn write_record(text: &mut String, record: &Record) {
     line(
         text,
         format_args!(
-            "t {} switches {} last {}",
-            record.t, record.switches, record.last_runner
+            "t {} switches {} last {} {}",
+            record.t, record.switches, record.last.rank, record.last.release
         ),
     );
     for (rank, task) in record.tasks.iter().enumerate() {

@@ -1,7 +1,7 @@
 //! A run, tick by tick.
 
 use crate::bounds::ceilings;
-use crate::record::{LockStack, Record, IDLE, STUCK};
+use crate::record::{Job, LockStack, Record, IDLE, NO_JOB, STUCK};
 use crate::refusal::Refusal;
 use crate::sheet::{Sheet, Step, Task};
 use crate::{wrong, LAST_TICK, SIXTEEN};
@@ -126,9 +126,11 @@ impl<'a> Run<'a> {
         let runner = self.choose_runner();
         self.count_blocked(runner);
         if usize::from(runner) < self.sheet.tasks.len() {
+            self.load(runner);
             self.execute(usize::from(runner));
+        } else {
+            self.pass_over(runner);
         }
-        self.count_switch(runner);
         self.record.t += 1;
         runner
     }
@@ -332,6 +334,9 @@ impl<'a> Run<'a> {
             job.misses += 1;
         }
         job.rest();
+        if wrong::RELEASE_AFTER {
+            self.record.last.release = 0;
+        }
     }
 
     /// The waiting jobs' part of rule 6: whoever is pending above the runner.
@@ -352,12 +357,35 @@ impl<'a> Run<'a> {
         }
     }
 
-    /// Rule 7.
-    fn count_switch(&mut self, runner: u8) {
-        let last = std::mem::replace(&mut self.record.last_runner, runner);
-        let idle = runner == IDLE || last == IDLE;
-        if runner != last && !(wrong::IDLE_NO_SWITCH && idle) {
+    /// Rule 7, before the runner may complete: a switch unless this job is the
+    /// one that ran last.
+    fn load(&mut self, runner: u8) {
+        let job = Job {
+            rank: runner,
+            release: self.record.tasks[usize::from(runner)].release,
+        };
+        let last = std::mem::replace(&mut self.record.last, job);
+        let same = job == last || (wrong::RANK_ALONE && job.rank == last.rank);
+        let free = wrong::FIRST_FREE && last == NO_JOB;
+        if !same && !free {
             self.record.switches += 1;
+        }
+    }
+
+    /// An idle or a stuck tick leaves what is remembered as it is, but for
+    /// wrong rules.
+    fn pass_over(&mut self, runner: u8) {
+        let idle = runner == IDLE;
+        if wrong::IDLE_COUNTS && idle && self.record.last != NO_JOB {
+            self.record.switches += 1;
+        }
+        let forgotten = if idle {
+            wrong::IDLE_FORGETS || wrong::IDLE_COUNTS
+        } else {
+            wrong::STUCK_FORGETS
+        };
+        if forgotten {
+            self.record.last = NO_JOB;
         }
     }
 }

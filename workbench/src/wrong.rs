@@ -21,8 +21,20 @@ pub const FRESH_LEFT: bool = cfg!(feature = "wrong-fresh-left");
 pub const FRESH_LOCKLESS: bool = cfg!(feature = "wrong-fresh-lockless");
 /// Among equal ceilings the largest semaphore number counts.
 pub const TIE_LARGEST: bool = cfg!(feature = "wrong-tie-largest");
-/// Going to or from idle is no switch.
-pub const IDLE_NO_SWITCH: bool = cfg!(feature = "wrong-idle-no-switch");
+/// Going idle is a switch.
+pub const IDLE_COUNTS: bool = cfg!(feature = "wrong-idle-counts");
+/// An idle tick forgets the job that ran last.
+pub const IDLE_FORGETS: bool = cfg!(feature = "wrong-idle-forgets");
+/// A stuck tick forgets the job that ran last.
+pub const STUCK_FORGETS: bool = cfg!(feature = "wrong-stuck-forgets");
+/// A next job of the same task is no switch.
+pub const RANK_ALONE: bool = cfg!(feature = "wrong-rank-alone");
+/// The first job to run is no switch.
+pub const FIRST_FREE: bool = cfg!(feature = "wrong-first-free");
+/// A job that completes is remembered with the release tick it has then, 0.
+pub const RELEASE_AFTER: bool = cfg!(feature = "wrong-release-after");
+/// The remembered release tick may be any.
+pub const REMEMBERED_TICK: bool = cfg!(feature = "wrong-remembered-tick");
 /// A stuck tick blocks every pending job.
 pub const STUCK_BLOCKED: bool = cfg!(feature = "wrong-stuck-blocked");
 /// A missed release is not counted among the releases.

@@ -4,7 +4,7 @@ mod common;
 
 use common::{field, resting, second, standing, switches, tick, trace};
 use workbench::draft::{case_a, case_e, lock, run, unlock, Draft, DraftTask};
-use workbench::record::{Record, STUCK};
+use workbench::record::{Job, Record};
 use workbench::run::{whole_run, Run};
 use workbench::sheet::Sheet;
 
@@ -13,7 +13,7 @@ fn case_a_whole() {
     assert_eq!(case_a(0).to_bytes().len(), 45);
     assert_eq!(
         second(&case_a(0).with_horizon(10)),
-        "ticks 10 switches 6\n\
+        "ticks 10 switches 5\n\
          0 releases 1 done 1 missed 0 ran 2 blocked 2 worst 4 bound 3 laxity 5 by 1/1\n\
          1 releases 1 done 1 missed 0 ran 5 blocked 0 worst 7 bound 0 laxity 11 by -\n\
          trace 1 1 0 1 1 0 1 - - -\n"
@@ -24,7 +24,7 @@ fn case_a_whole() {
 fn case_a2_preemption_rule() {
     let answer = second(&case_a(1).with_horizon(10));
     assert_eq!(trace(&answer), "1 1 1 1 0 0 1 - - -");
-    assert_eq!(switches(&answer), 4);
+    assert_eq!(switches(&answer), 3);
     assert_eq!(field(&answer, 0, "blocked"), 2);
     assert_eq!(field(&answer, 0, "worst"), 4);
 }
@@ -37,7 +37,7 @@ fn case_a3_bystander() {
     draft.tasks.push(DraftTask::new(20, 0, &bystander));
     let answer = second(&draft.with_horizon(10));
     assert_eq!(trace(&answer), "1 1 0 1 1 0 1 2 2 -");
-    assert_eq!(switches(&answer), 7);
+    assert_eq!(switches(&answer), 6);
     let plain = second(&case_a(0).with_horizon(10));
     let of_both = |answer: &str| answer.lines().skip(1).take(2).map(String::from).collect();
     let (ours, expected): (Vec<_>, Vec<_>) = (of_both(&answer), of_both(&plain));
@@ -71,6 +71,7 @@ fn one_task(period: u16, length: u16) -> Draft {
 fn case_d_miss() {
     let answer = second(&one_task(2, 3).with_horizon(5));
     assert_eq!(trace(&answer), "0 0 0 - 0");
+    assert_eq!(switches(&answer), 2);
     for (name, expected) in [("releases", 3), ("missed", 1), ("done", 1), ("worst", 3)] {
         assert_eq!(field(&answer, 0, name), expected, "{name}");
     }
@@ -82,6 +83,8 @@ fn case_d2_completion_at_the_end_is_no_miss() {
     assert_eq!(field(&answer, 0, "missed"), 0);
     assert_eq!(field(&answer, 0, "done"), 2);
     assert_eq!(trace(&answer), "0 0 0 0 0 0");
+    // The second job starts at once, and is another.
+    assert_eq!(switches(&answer), 2);
 }
 
 #[test]
@@ -90,12 +93,16 @@ fn case_e_stuck() {
     record.tasks[0] = standing(2, 0);
     record.tasks[1] = standing(2, 0);
     let answer = tick(&case_e(), &record);
-    assert!(answer.starts_with("runner 254\nt 3 switches 1 last 254\n"));
+    assert!(answer.starts_with("runner 254\nt 3 switches 0 last 255 0\n"));
     // Nobody runs, so nobody is blocked by a running job.
     assert_eq!(field(&answer, 0, "blocked"), 0);
     assert_eq!(field(&answer, 0, "position"), 2);
-    record.last_runner = STUCK;
-    assert!(tick(&case_e(), &record).starts_with("runner 254\nt 3 switches 0 last 254\n"));
+    record.last = Job {
+        rank: 1,
+        release: 1,
+    };
+    record.switches = 2;
+    assert!(tick(&case_e(), &record).starts_with("runner 254\nt 3 switches 2 last 1 1\n"));
 }
 
 #[test]
@@ -111,12 +118,11 @@ fn case_f_nothing_run() {
 }
 
 #[test]
-fn idle_stretches_are_one_switch_each_way() {
+fn going_idle_is_no_switch() {
     let draft = Draft::new(0, 0, vec![DraftTask::new(4, 1, &[run(1)])]);
     let answer = second(&draft.with_horizon(8));
     assert_eq!(trace(&answer), "- 0 - - - 0 - -");
-    // The last runner is idle before the start.
-    assert_eq!(switches(&answer), 4);
+    assert_eq!(switches(&answer), 2);
 }
 
 #[test]

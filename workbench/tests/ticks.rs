@@ -4,7 +4,7 @@ mod common;
 
 use common::{field, resting, second_tick, standing, tick, written};
 use workbench::draft::{case_a, case_e, lock, run, unlock, with_record, Draft, DraftTask};
-use workbench::record::{Record, TaskRecord, IDLE, STUCK};
+use workbench::record::{Job, Record, TaskRecord, NO_JOB, RECORD_HEAD};
 
 /// A refused tick's answer: nothing else, and the record comes back as it came.
 fn turned_away(number: u8, task: u8, record: &Record) -> String {
@@ -19,10 +19,14 @@ fn runner(answer: &str) -> &str {
     answer.lines().next().unwrap()
 }
 
+fn job(rank: u8, release: u16) -> Job {
+    Job { rank, release }
+}
+
 /// Case A at tick 5 as its run leaves it: rank 0 waits at its lock.
 fn case_a_at_5() -> Record {
     let mut record = resting(5);
-    record.last_runner = 1;
+    record.last = job(1, 0);
     record.switches = 3;
     record.tasks[0] = TaskRecord {
         release: 2,
@@ -51,7 +55,7 @@ fn whole_answer() {
         .collect::<String>();
     assert_eq!(
         tick(&case_a(0), &case_a_at_5()),
-        "runner 0\nt 6 switches 4 last 0\n\
+        "runner 0\nt 6 switches 4 last 0 2\n\
          0 pending 0 position 0 left 0 release 0 releases 1 done 1 missed 0 ran 2 blocked 2 worst 4\n\
          1 pending 1 position 4 left 1 release 0 releases 1 done 0 missed 0 ran 4 blocked 0 worst 0\n"
             .to_string()
@@ -62,10 +66,13 @@ fn whole_answer() {
 #[test]
 fn missing_bytes_are_zero() {
     let sheet = case_a(0).to_bytes();
-    // A record of zeros: its last runner is rank 0, and rank 1 runs.
-    let answer = second_tick(&with_record(&sheet, &[]));
-    assert!(answer.starts_with("runner 1\nt 1 switches 1 last 1\n"));
+    // A record of zeros remembers a job released at 0, which is not below t.
     let zeros = Record::default();
+    let answer = second_tick(&with_record(&sheet, &[]));
+    assert_eq!(answer, turned_away(16, 0, &zeros));
+    let start = &Record::start().to_bytes()[..RECORD_HEAD];
+    let answer = second_tick(&with_record(&sheet, start));
+    assert!(answer.starts_with("runner 1\nt 1 switches 1 last 1 0\n"));
     assert_eq!(second_tick(&[]), turned_away(1, 0, &zeros));
     assert_eq!(second_tick(&[9]), turned_away(1, 0, &zeros));
     let cut = &with_record(&sheet, &[])[..30];
@@ -79,14 +86,14 @@ fn missing_bytes_are_zero() {
 #[test]
 fn any_byte_but_zero_is_pending() {
     let mut bytes = case_a_at_5().to_bytes();
-    bytes[5] = 200;
+    bytes[RECORD_HEAD] = 200;
     let answer = second_tick(&with_record(&case_a(0).to_bytes(), &bytes));
     assert_eq!(answer, tick(&case_a(0), &case_a_at_5()));
 }
 
 #[test]
 fn number_16_each_reason() {
-    let reasons: [(&str, Change); 22] = [
+    let reasons: [(&str, Change); 26] = [
         ("t", |r| r.t = 60_001),
         ("switches", |r| r.switches = 6),
         ("releases", |r| r.tasks[1].releases = 6),
@@ -95,8 +102,12 @@ fn number_16_each_reason() {
         ("ran", |r| r.tasks[0].ran = 6),
         ("blocked", |r| r.tasks[1].blocked = 6),
         ("worst", |r| r.tasks[0].worst = 6),
-        ("last runner n", |r| r.last_runner = 2),
-        ("last runner 253", |r| r.last_runner = 253),
+        ("remembered rank n", |r| r.last.rank = 2),
+        ("remembered rank 253", |r| r.last = job(253, 0)),
+        ("remembered rank 254", |r| r.last = job(254, 0)),
+        ("nobody remembered, with a tick", |r| r.last = job(255, 1)),
+        ("remembered tick at t", |r| r.last.release = 5),
+        ("remembered tick above t", |r| r.last.release = 6),
         ("unused record", |r| r.tasks[2].worst = 1),
         ("unused record pending", |r| r.tasks[15].pending = true),
         ("release tick at t", |r| r.tasks[0].release = 5),
@@ -133,12 +144,13 @@ fn number_16_each_reason() {
 
 #[test]
 fn just_possible() {
-    let kinds: [Change; 6] = [
+    let kinds: [Change; 7] = [
         |r| r.switches = 5,
         |r| r.tasks[1].blocked = 5,
         |r| r.tasks[1].worst = 5,
-        |r| r.last_runner = STUCK,
-        |r| r.last_runner = IDLE,
+        |r| r.last = NO_JOB,
+        |r| r.last = job(0, 4),
+        |r| r.last = job(1, 4),
         |r| r.tasks[0].release = 4,
     ];
     for change in kinds {
@@ -152,12 +164,63 @@ fn just_possible() {
 fn number_17_after_16() {
     let mut record = resting(60_000);
     assert_eq!(tick(&case_a(0), &record), turned_away(17, 0, &record));
-    record.last_runner = 2;
+    record.last = job(2, 0);
     assert_eq!(tick(&case_a(0), &record), turned_away(16, 0, &record));
+    record.last = job(0, 60_000);
+    assert_eq!(tick(&case_a(0), &record), turned_away(16, 0, &record));
+    record.last = job(0, 59_999);
+    assert_eq!(tick(&case_a(0), &record), turned_away(17, 0, &record));
     record = resting(59_999);
     let answer = tick(&case_a(0), &record);
     assert_eq!(runner(&answer), "runner 255");
-    assert!(answer.contains("\nt 60000 switches 0 last 255\n"));
+    assert!(answer.contains("\nt 60000 switches 0 last 255 0\n"));
+}
+
+#[test]
+fn a_switch_is_another_job() {
+    // Rank 1 runs on inside its section, or to its end, released at 3.
+    let draft = case_a(0);
+    for (position, left) in [(2, 3), (4, 1)] {
+        let cases = [
+            (NO_JOB, 1),
+            (job(1, 3), 0),
+            (job(1, 2), 1),
+            (job(1, 0), 1),
+            (job(0, 3), 1),
+        ];
+        for (last, switches) in cases {
+            let mut record = resting(5);
+            record.last = last;
+            record.tasks[1] = TaskRecord {
+                release: 3,
+                ..standing(position, left)
+            };
+            let wanted = format!("runner 1\nt 6 switches {switches} last 1 3\n");
+            let answer = tick(&draft, &record);
+            assert!(answer.starts_with(&wanted), "{last:?}: {answer}");
+        }
+    }
+}
+
+#[test]
+fn a_job_released_now_is_another() {
+    let mut record = resting(20);
+    record.last = job(1, 19);
+    let answer = tick(&case_a(0), &record);
+    assert!(answer.starts_with("runner 1\nt 21 switches 1 last 1 20\n"));
+}
+
+#[test]
+fn idle_ticks_are_passed_over() {
+    for last in [NO_JOB, job(0, 0), job(1, 8)] {
+        let mut record = resting(9);
+        record.last = last;
+        let wanted = format!(
+            "runner 255\nt 10 switches 0 last {} {}\n",
+            last.rank, last.release
+        );
+        assert!(tick(&case_a(0), &record).starts_with(&wanted));
+    }
 }
 
 #[test]

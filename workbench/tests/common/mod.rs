@@ -6,7 +6,7 @@ use std::io::Write;
 use std::process::{Command, Stdio};
 
 use workbench::draft::{with_record, Draft};
-use workbench::record::{Record, TaskRecord, IDLE};
+use workbench::record::{Record, TaskRecord};
 
 /// What the printing program prints.
 pub fn second(input: &[u8]) -> String {
@@ -44,11 +44,10 @@ pub fn tick(draft: &Draft, record: &Record) -> String {
     second_tick(&with_record(&draft.to_bytes(), &record.to_bytes()))
 }
 
-/// A record at tick `t` in which nobody is pending.
+/// A record at tick `t` in which nobody is pending and nobody has run.
 pub fn resting(t: u16) -> Record {
     Record {
         t,
-        last_runner: IDLE,
         ..Record::start()
     }
 }
@@ -66,8 +65,8 @@ pub fn standing(position: u8, left: u16) -> TaskRecord {
 /// A record as the programs print it.
 pub fn written(record: &Record) -> String {
     let mut text = format!(
-        "t {} switches {} last {}\n",
-        record.t, record.switches, record.last_runner
+        "t {} switches {} last {} {}\n",
+        record.t, record.switches, record.last.rank, record.last.release
     );
     for (rank, task) in record.tasks.iter().enumerate() {
         let fields = [

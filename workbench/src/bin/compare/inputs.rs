@@ -4,11 +4,11 @@ use workbench::draft::{
     case_a, case_e, lock, run, unlock, with_call, with_horizon, with_record, Draft, DraftTask,
     RawStep,
 };
-use workbench::record::{Record, TaskRecord, IDLE, STUCK};
+use workbench::record::{Record, TaskRecord, RECORD_HEAD};
 use workbench::sheet::Sheet;
 
 use crate::chance::Chance;
-use crate::{damage, names, records, sheets};
+use crate::{damage, names, records, remembered, sheets};
 
 #[derive(Clone, Copy, PartialEq, Eq)]
 pub enum Kind {
@@ -29,110 +29,130 @@ pub struct Input {
 
 /// Where a category's inputs come from.
 enum Source {
-    /// A list of its own; cut down to its share, by chance, if longer.
+    /// A list of its own; sampled by chance if the lists are too long.
     List(fn(&mut Chance) -> Vec<Vec<u8>>),
-    /// As many as wanted; the number says how many came before.
-    Endless(fn(&mut Chance, usize) -> Vec<u8>),
+    /// As many as wanted, by weight against the other weights; the number says
+    /// how many came before.
+    Endless(usize, fn(&mut Chance, usize) -> Vec<u8>),
 }
 
 pub struct Category {
     pub name: &'static str,
     kind: Kind,
-    /// The share in the whole, against the other weights.
-    weight: usize,
     source: Source,
 }
 
 use Kind::{Call, Run, Tick};
 use Source::{Endless, List};
 
-const fn category(name: &'static str, kind: Kind, weight: usize, source: Source) -> Category {
-    Category {
-        name,
-        kind,
-        weight,
-        source,
-    }
+const fn category(name: &'static str, kind: Kind, source: Source) -> Category {
+    Category { name, kind, source }
 }
 
-pub const CATEGORIES: [Category; 33] = [
-    category("cases of the scope document", Run, 2, List(scope_cases)),
-    category("both sides of the limits", Run, 3, List(two_sided)),
-    category("horizons", Run, 2, List(horizons)),
-    category("longest sheets, longer inputs", Run, 2, List(longest)),
-    category("every truncation", Run, 3, List(truncations)),
-    category("every bit flipped", Run, 11, List(bit_flips)),
-    category("valid sheets, mode 0", Run, 16, Endless(valid_mode_0)),
-    category("valid sheets, mode 1", Run, 16, Endless(valid_mode_1)),
-    category("one damage", Run, 12, Endless(one_damage)),
-    category("several damages", Run, 8, Endless(several_damages)),
-    category("random bytes", Run, 4, Endless(random_bytes)),
-    category("extreme laxities", Run, 4, Endless(extreme_laxities)),
-    category("names by hand", Run, 1, List(names_by_hand)),
-    category("names on ties", Run, 4, Endless(tied_names)),
-    category("tick: made by hand", Tick, 4, List(by_hand)),
-    category("tick: cut and long inputs", Tick, 4, List(tick_lengths)),
-    category("tick: records along runs", Tick, 6, Endless(along_runs)),
-    category("tick: any possible record", Tick, 6, Endless(any_possible)),
-    category("tick: two and two locks", Tick, 8, Endless(crossed)),
-    category("tick: equal ceilings", Tick, 5, Endless(equal_ceilings)),
-    category("tick: fresh jobs, mode 1", Tick, 6, Endless(fresh_jobs)),
-    category("tick: impossible records", Tick, 12, Endless(impossible)),
-    category("tick: nudged records", Tick, 6, Endless(nudged)),
-    category("tick: damaged sheets", Tick, 2, Endless(damaged_sheets)),
-    category("tick: flipped bits", Tick, 4, Endless(flipped)),
-    category("call: made by hand", Call, 3, List(calls_by_hand)),
-    category("call: cut and long inputs", Call, 2, List(call_lengths)),
-    category("call: any on valid sheets", Call, 6, Endless(call_valid)),
+pub const CATEGORIES: [Category; 34] = [
+    category("cases of the scope document", Run, List(scope_cases)),
+    category("both sides of the limits", Run, List(two_sided)),
+    category("horizons", Run, List(horizons)),
+    category("longest sheets, longer inputs", Run, List(longest)),
+    category("every truncation", Run, List(truncations)),
+    category("every bit flipped", Run, List(bit_flips)),
+    category("valid sheets, mode 0", Run, Endless(16, valid_mode_0)),
+    category("valid sheets, mode 1", Run, Endless(16, valid_mode_1)),
+    category("one damage", Run, Endless(12, one_damage)),
+    category("several damages", Run, Endless(8, several_damages)),
+    category("random bytes", Run, Endless(4, random_bytes)),
+    category("extreme laxities", Run, Endless(4, extreme_laxities)),
+    category("names by hand", Run, List(names_by_hand)),
+    category("names on ties", Run, Endless(4, tied_names)),
+    category("tick: made by hand", Tick, List(by_hand)),
+    category("tick: remembered by hand", Tick, List(last_by_hand)),
+    category("tick: cut and long inputs", Tick, List(tick_lengths)),
+    category("tick: records along runs", Tick, Endless(6, along_runs)),
+    category("tick: any possible record", Tick, Endless(6, any_possible)),
+    category("tick: two and two locks", Tick, Endless(8, crossed)),
+    category("tick: equal ceilings", Tick, Endless(5, equal_ceilings)),
+    category("tick: fresh jobs, mode 1", Tick, Endless(6, fresh_jobs)),
+    category("tick: impossible records", Tick, Endless(12, impossible)),
+    category("tick: nudged records", Tick, Endless(6, nudged)),
+    category("tick: damaged sheets", Tick, Endless(2, damaged_sheets)),
+    category("tick: flipped bits", Tick, Endless(4, flipped)),
+    category("call: made by hand", Call, List(calls_by_hand)),
+    category("call: cut and long inputs", Call, List(call_lengths)),
+    category("call: any on valid sheets", Call, Endless(6, call_valid)),
     category(
         "call: any on damaged sheets",
         Call,
-        4,
-        Endless(call_damaged),
+        Endless(4, call_damaged),
     ),
-    category("call: names by hand", Call, 1, List(call_names)),
-    category("call: names on ties", Call, 3, Endless(call_tied)),
-    category("call: runs, all buffers", Call, 6, Endless(call_run)),
-    category("call: flipped bits", Call, 3, Endless(call_flipped)),
+    category("call: names by hand", Call, List(call_names)),
+    category("call: names on ties", Call, Endless(3, call_tied)),
+    category("call: runs, all buffers", Call, Endless(6, call_run)),
+    category("call: flipped bits", Call, Endless(3, call_flipped)),
 ];
 
-/// So many inputs of the kinds wanted, the same for the same seed.
+/// So many inputs of the kinds wanted, the same for the same seed. The lists
+/// take at most half of them.
 pub fn generate(seed: u64, count: usize, wanted: impl Fn(Kind) -> bool) -> Vec<Input> {
-    let wanted = |category: &&(usize, &Category)| wanted(category.1.kind);
-    let all: Vec<(usize, &Category)> = CATEGORIES.iter().enumerate().collect();
-    let used: Vec<(usize, &Category)> = all.iter().filter(wanted).copied().collect();
     let mut chance = Chance::new(seed);
-    let mut inputs = Vec::new();
-    let mut weight_left: usize = used.iter().map(|(_, category)| category.weight).sum();
-    for (index, category) in used {
-        // What a short list leaves over goes to the categories behind it.
-        let share = (count - inputs.len()) * category.weight / weight_left;
-        weight_left -= category.weight;
-        for bytes in category.take(&mut chance, share) {
-            inputs.push(Input {
-                category: index,
-                kind: category.kind,
-                bytes,
-            });
+    let used = || {
+        let all = CATEGORIES.iter().enumerate();
+        all.filter(|(_, category)| wanted(category.kind))
+    };
+    let mut lists: Vec<(usize, Vec<Vec<u8>>)> = Vec::new();
+    for (index, category) in used() {
+        if let List(make) = category.source {
+            lists.push((index, make(&mut chance)));
         }
     }
-    inputs
+    cut_to(&mut chance, &mut lists, count / 2);
+    let mut parts = lists;
+    let mut left = count - total(&parts);
+    let mut weight_left: usize = used().map(|(_, category)| category.weight()).sum();
+    for (index, category) in used() {
+        if let Endless(weight, make) = category.source {
+            let share = left * weight / weight_left;
+            left -= share;
+            weight_left -= weight;
+            let made = (0..share).map(|index| make(&mut chance, index)).collect();
+            parts.push((index, made));
+        }
+    }
+    parts.into_iter().flat_map(inputs_of).collect()
 }
 
 impl Category {
-    fn take(&self, chance: &mut Chance, share: usize) -> Vec<Vec<u8>> {
+    fn weight(&self) -> usize {
         match self.source {
-            Endless(make) => (0..share).map(|index| make(chance, index)).collect(),
-            List(make) => {
-                let mut list = make(chance);
-                if list.len() > share {
-                    chance.shuffle(&mut list);
-                    list.truncate(share);
-                }
-                list
-            }
+            List(_) => 0,
+            Endless(weight, _) => weight,
         }
     }
+}
+
+fn total(lists: &[(usize, Vec<Vec<u8>>)]) -> usize {
+    lists.iter().map(|(_, list)| list.len()).sum()
+}
+
+/// Leaves each list its part of the room, if they do not fit into it whole.
+fn cut_to(chance: &mut Chance, lists: &mut [(usize, Vec<Vec<u8>>)], room: usize) {
+    let all = total(lists);
+    if all <= room {
+        return;
+    }
+    for (_, list) in lists {
+        chance.shuffle(list);
+        list.truncate(list.len() * room / all);
+    }
+}
+
+/// The inputs of one category.
+fn inputs_of((category, list): (usize, Vec<Vec<u8>>)) -> impl Iterator<Item = Input> {
+    let kind = CATEGORIES[category].kind;
+    list.into_iter().map(move |bytes| Input {
+        category,
+        kind,
+        bytes,
+    })
 }
 
 // Whole runs.
@@ -411,24 +431,21 @@ fn standing(jobs: &[(usize, u8, u16)]) -> Record {
 /// One of everything that no run from the start shows.
 fn by_hand(_: &mut Chance) -> Vec<Vec<u8>> {
     let mut list = Vec::new();
-    for last in [0, 1, STUCK, IDLE] {
-        let mut record = standing(&[(0, 2, 0), (1, 2, 0)]);
-        record.last_runner = last;
-        list.push(tick_input(&case_e(), &record));
-    }
+    list.push(tick_input(&case_e(), &standing(&[(0, 2, 0), (1, 2, 0)])));
     list.extend(hand_overs());
     list.extend(held_back());
     list.extend(ties());
     list.extend(pending_bytes());
     for t in [0, 59_999, 60_000, 60_001, 65_535] {
-        for last in [0, 1, 2, 3, 16, 253, STUCK, IDLE] {
-            let mut record = Record::start();
-            record.t = t;
-            record.last_runner = last;
-            list.push(tick_input(&case_a(0), &record));
-        }
+        let mut record = Record::start();
+        record.t = t;
+        list.push(tick_input(&case_a(0), &record));
     }
     list
+}
+
+fn last_by_hand(_: &mut Chance) -> Vec<Vec<u8>> {
+    remembered::by_hand()
 }
 
 /// Rank 0 waits for rank 1, and rank 1 for rank 2 or for nobody.
@@ -528,7 +545,7 @@ fn pending_bytes() -> Vec<Vec<u8>> {
     let record = standing(&[(0, 1, 0), (1, 2, 3)]);
     let written = |byte| {
         let mut bytes = record.to_bytes();
-        bytes[5] = byte;
+        bytes[RECORD_HEAD] = byte;
         with_record(&sheet, &bytes)
     };
     [0, 1, 2, 128, 255].map(written).to_vec()
@@ -546,7 +563,8 @@ fn tick_lengths(chance: &mut Chance) -> Vec<Vec<u8>> {
         list.push([&input[..], &vec![255; tail]].concat());
     }
     // A length that takes in the record, or stops inside the sheet.
-    for length in [0, 1, 7, 8, 44, 46, 60, 338, 339, 65_535_u16] {
+    let all = input.len() as u16 - 2;
+    for length in [0, 1, 7, 8, 44, 46, 60, all, all + 1, 65_535] {
         let mut other = input.clone();
         other[..2].copy_from_slice(&length.to_be_bytes());
         list.push(other);

@@ -7,6 +7,7 @@ mod duel;
 mod inputs;
 mod names;
 mod records;
+mod remembered;
 mod sheets;
 mod tally;
 

@@ -1,6 +1,6 @@
 //! Records made by hand: possible ones, and ones with something wrong.
 
-use workbench::record::{LockStack, Record, TaskRecord, IDLE, STUCK};
+use workbench::record::{Job, LockStack, Record, TaskRecord, NO_JOB};
 use workbench::run::Run;
 use workbench::sheet::{Sheet, Step, Task};
 use workbench::LAST_TICK;
@@ -17,7 +17,6 @@ pub fn possible(chance: &mut Chance, sheet: &Sheet, crowd: usize) -> Record {
         _ => chance.word(1, 120),
     };
     record.switches = count(chance, record.t);
-    record.last_runner = last_runner(chance, sheet);
     let mut order: Vec<usize> = (0..sheet.tasks.len()).collect();
     chance.shuffle(&mut order);
     let mut taken = Vec::new();
@@ -28,6 +27,7 @@ pub fn possible(chance: &mut Chance, sheet: &Sheet, crowd: usize) -> Record {
             stand_somewhere(chance, &mut record, rank, task, &mut taken);
         }
     }
+    record.last = remembered(chance, sheet, &record);
     record
 }
 
@@ -40,9 +40,27 @@ fn count(chance: &mut Chance, t: u16) -> u16 {
     }
 }
 
-fn last_runner(chance: &mut Chance, sheet: &Sheet) -> u8 {
-    let rank = chance.below(sheet.tasks.len()) as u8;
-    chance.pick(&[rank, rank, rank, STUCK, IDLE])
+/// A job that may have run last: a pending one, another of its task, one of
+/// any task, or none.
+fn remembered(chance: &mut Chance, sheet: &Sheet, record: &Record) -> Job {
+    let any_rank = chance.below(sheet.tasks.len());
+    let any_tick = chance.word(0, record.t - 1);
+    let pending: Vec<usize> = (0..sheet.tasks.len())
+        .filter(|rank| record.tasks[*rank].pending)
+        .collect();
+    let rank = match chance.below(10) {
+        0 => return NO_JOB,
+        1..=3 => any_rank,
+        // The first pending job is often the one that runs.
+        4 | 5 => pending.first().copied().unwrap_or(any_rank),
+        _ if pending.is_empty() => any_rank,
+        _ => chance.pick(&pending),
+    };
+    let own = record.tasks[rank].release;
+    Job {
+        rank: rank as u8,
+        release: chance.pick(&[own, own, any_tick, record.t - 1]),
+    }
 }
 
 fn resting(chance: &mut Chance, t: u16) -> TaskRecord {
@@ -169,7 +187,7 @@ fn about(chance: &mut Chance, t: u16) -> u16 {
 }
 
 /// Every reason for refusal 16, and the tick of refusal 17.
-pub const SPOILS: [Spoil; 35] = [
+pub const SPOILS: [Spoil; 37] = [
     |_, _, r| r.t = LAST_TICK,
     |c, _, r| r.t = c.pick(&[60_001, 60_002, 65_535]),
     |c, _, r| r.switches = about(c, r.t),
@@ -179,10 +197,23 @@ pub const SPOILS: [Spoil; 35] = [
     |c, s, r| any_used(c, s, r).ran = about(c, r.t),
     |c, s, r| any_used(c, s, r).blocked = about(c, r.t),
     |c, s, r| any_used(c, s, r).worst = about(c, r.t),
-    |_, s, r| r.last_runner = s.tasks.len() as u8,
-    |_, s, r| r.last_runner = s.tasks.len() as u8 + 1,
-    |c, s, r| r.last_runner = c.pick(&[s.tasks.len() as u8 - 1, 16, 17, 253]),
-    |c, _, r| r.last_runner = c.pick(&[STUCK, IDLE]),
+    |_, s, r| r.last.rank = s.tasks.len() as u8,
+    |_, s, r| r.last.rank = s.tasks.len() as u8 + 1,
+    |c, s, r| r.last.rank = c.pick(&[s.tasks.len() as u8 - 1, 16, 17, 253, 254]),
+    |c, _, r| {
+        let (rank, t) = (c.pick(&[254, 255, 255]), r.t);
+        let release = c.pick(&[0, 1, t - 1, t, 65_535]);
+        r.last = Job { rank, release };
+    },
+    // A remembered release tick just below t, at t and above.
+    |c, s, r| {
+        r.last.rank = c.below(s.tasks.len()) as u8;
+        r.last.release = r.t - 1 + c.below(3) as u16;
+    },
+    |c, s, r| {
+        r.last.rank = s.tasks.len() as u8 - 1;
+        r.last.release = c.pick(&[r.t, 65_535]);
+    },
     |c, s, r| any_unused(c, s, r).pending = true,
     |c, s, r| any_unused(c, s, r).position = 1,
     |c, s, r| any_unused(c, s, r).left = 1,
@@ -243,7 +274,7 @@ pub const SPOILS: [Spoil; 35] = [
     // Impossible at the last tick: 16 comes before 17.
     |c, _, r| {
         r.t = LAST_TICK;
-        r.last_runner = c.pick(&[16, 253, 254]);
+        r.last.rank = c.pick(&[16, 253, 254]);
     },
 ];
 
@@ -278,10 +309,11 @@ pub fn nudge(chance: &mut Chance, sheet: &Sheet, record: &mut Record) {
     };
     let rank = chance.below(sheet.tasks.len());
     let job = &mut record.tasks[rank];
-    match chance.below(12) {
+    match chance.below(13) {
         0 => record.t = nudged(chance, t),
         1 => record.switches = nudged(chance, record.switches),
-        2 => record.last_runner = chance.pick(&[0, 1, 2, 15, 16, 253, STUCK, IDLE]),
+        2 => record.last.rank = chance.pick(&[0, 1, 2, 15, 16, 253, 254, 255]),
+        12 => record.last.release = nudged(chance, record.last.release),
         3 => job.pending = !job.pending,
         4 => job.position = job.position.wrapping_add(1),
         5 => job.position = job.position.wrapping_sub(1),
