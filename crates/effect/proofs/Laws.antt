@@ -13,13 +13,14 @@ use lib.Seq.{drop-drop, ext-getD, getD-set-same, getD-set-other}
 use borrow.Author.Tests.{lt-ltb, le-ltb, le-leb, lt-leb, eq-eqb, ne-eqb, eqb-true, eqb-false}
 use Rattle.rules.specs.Words.{if_then_else_, _<?_, _=?_, leading}
 use Rattle.rules.specs.Sheet.{Step, Task, Sheet, taskAt, isLock, isUnlock}
-use Rattle.rules.specs.Fields.{Releases, Misses, TicksRun, TicksBlocked, up, standing, movedTo, noJob, blank, withTasks}
+use Rattle.rules.specs.Fields.{Releases, Misses, TicksRun, TicksBlocked, up, standing, movedTo, noJob, blank, lastJob, sameJob, withTasks}
 use Rattle.rules.specs.Record.{recordAt, ahead}
 use Rattle.rules.specs.Choice.{full, Runner, job, stuck, idle, runnerByte}
-use Rattle.rules.specs.Tick.{completed, releasesAt, released, afterReleases, nextRun, leftOfRun, behindUnlocks, advanced, spent, afterRunner, closed}
+use Rattle.rules.specs.Tick.{completed, releasesAt, released, afterReleases, nextRun, leftOfRun, behindUnlocks, advanced, spent, afterRunner, ranLast, closed}
 use Rattle.rules.specs.declared.Job.{Job}
 use Rattle.rules.specs.declared.Counts.{Counts}
 use Rattle.rules.specs.declared.TaskRecord.{TaskRecord}
+use Rattle.rules.specs.declared.LastJob.{LastJob}
 use Rattle.rules.specs.declared.State.{State}
 use Rattle.rules.proofs.Laws.{sure, below, length-row, row-at}
 use Rattle.rules.proofs.Reading.{periods}
@@ -354,14 +355,29 @@ byte-back (job k) rank = rw (lt-ltb k 16 (rank k refl)) refl
 byte-back stuck rank = refl
 byte-back idle rank = refl
 
--- rule 7
-pub switch-not : (x last switches : ℕ) → x ≡ last → switches ≡ (if x =? last then switches else switches + 1)
-switch-not x last switches e = rw (eq-eqb x last e) refl
+-- rule 7: the job that ran last,
+module _ (x : ℕ) (st : State) where
+  pub last-stays : 16 ≤ x → st .last ≡ ranLast (runnerNamed x) (st .tasks) (st .last)
+  unfolding runnerNamed ranLast
+  last-stays h = rw (le-ltb x 16 h) (go (x =? 254))
+    where
+      go : (b : Bool) → st .last ≡ ranLast (if b then stuck else idle) (st .tasks) (st .last)
+      go true = refl
+      go false = refl
 
-pub switch-more : (x last switches : ℕ) → (x ≡ last → ⊥) → switches + 1 ≡ (if x =? last then switches else switches + 1)
-switch-more x last switches e = rw (ne-eqb x last e) refl
+  pub last-runner : x < 16 → (j : LastJob) → j ≡ lastJob x (getD (st .tasks) x blank .job .release) → j ≡ ranLast (runnerNamed x) (st .tasks) (st .last)
+  unfolding runnerNamed ranLast recordAt
+  last-runner h j e = rw (lt-ltb x 16 h) e
 
-pub closed-with : (st : State) (x switches : ℕ) → switches ≡ (if x =? st .last then st .switches else st .switches + 1)
-    → record { t = st .t + 1; switches = switches; last = x; tasks = st .tasks } ≡ closed st x (st .tasks)
+-- and the switches
+module _ (switches : ℕ) (before last : LastJob) (a : Bool) (ea : a ≡ sameJob last before) where
+  pub switch-not : a ≡ true → switches ≡ (if sameJob last before then switches else switches + 1)
+  switch-not h = rw (← ea, h) refl
+
+  pub switch-more : a ≡ false → switches + 1 ≡ (if sameJob last before then switches else switches + 1)
+  switch-more h = rw (← ea, h) refl
+
+pub closed-with : (st : State) (last : LastJob) (switches : ℕ) → switches ≡ (if sameJob last (st .last) then st .switches else st .switches + 1)
+    → record { t = st .t + 1; switches = switches; last = last; tasks = st .tasks } ≡ closed st last (st .tasks)
 unfolding closed
-closed-with st x switches e = rw e refl
+closed-with st last switches e = rw e refl

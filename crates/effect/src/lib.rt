@@ -1,6 +1,7 @@
 // What a tick does apart from the choice of the runner: the releases (rule 1), the runner's tick (rules 5 and 6) and the
 // tick's end (rule 7). Each contract names the definition of rules/specs/Tick.antt that the function is equal to.
 use rules::Job;
+use rules::LastJob;
 use rules::State;
 use rules::TaskRecord;
 use table::Entry;
@@ -11,10 +12,10 @@ ghost use mathlib.Core.List.{List};
 ghost use mathlib.Core.Bool.{true};
 ghost use Prim.Native.Nat.{ℕ, _+_, _-_, _<_, _≤_};
 ghost use lib.ListN.{drop};
-ghost use Rattle.rules.specs.Words.{if_then_else_, _=?_, leading};
+ghost use Rattle.rules.specs.Words.{if_then_else_, leading};
 ghost use Rattle.rules.specs.Choice.{full, job};
-ghost use Rattle.rules.specs.Fields.{withTasks};
-ghost use Rattle.rules.specs.Tick.{releasesAt, released, afterReleases, leftOfRun, nextRun, advanced, spent, afterRunner, closed};
+ghost use Rattle.rules.specs.Fields.{withTasks, sameJob};
+ghost use Rattle.rules.specs.Tick.{releasesAt, released, afterReleases, leftOfRun, nextRun, advanced, spent, afterRunner, ranLast, closed};
 ghost use Rattle.table.specs.Table.{taskOf, sheetOf, Lies, Tabled};
 ghost use Rattle.table.specs.Steps.{ofKind};
 ghost use Rattle.record.specs.Room.{CountsBelow, AllBelow};
@@ -243,25 +244,38 @@ pub fn after_runner(s: &[u8], table: Table, x: u8, st: State) -> State
     next
 }
 
-fn switches_after(switches: u16, last: u8, x: u8) -> u16
-    requires { ⌜ switches < 65535 ⌝ }
-    ensures { λ r. ⌜ r ≡ (if x =? last then switches else switches + 1) ⌝ }
+// Rule 7: the job that ran last, once the runner has run; 254 and 255 leave it. It is asked before the runner's tick, in which
+// the job may complete.
+pub fn ran_last(x: u8, st: State) -> LastJob
+    ensures { λ r. ⌜ r ≡ ranLast (runnerNamed x) (st .tasks) (st .last) ⌝ }
 {
-    if x == last {
+    if 16 <= x {
+        return st.last;
+    }
+    let r = st.tasks[x as usize];
+    let j = r.job;
+    record::last_job(x, j.release)
+}
+
+fn switches_after(switches: u16, before: LastJob, last: LastJob) -> u16
+    requires { ⌜ switches < 65535 ⌝ }
+    ensures { λ r. ⌜ r ≡ (if sameJob last before then switches else switches + 1) ⌝ }
+{
+    if record::same_job(last, before) {
         return switches;
     }
     switches + 1
 }
 
-// Rule 7: the state at the end of its tick.
-pub fn closed(x: u8, st: State) -> State
+// The state at the end of its tick, with the job that ran last.
+pub fn closed(last: LastJob, st: State) -> State
     requires { ⌜ st .t < 65535 ⌝ }
     requires { ⌜ st .switches < 65535 ⌝ }
-    ensures { λ r. ⌜ r ≡ closed st x (st .tasks) ⌝ }
+    ensures { λ r. ⌜ r ≡ closed st last (st .tasks) ⌝ }
 {
     let mut next = st;
-    next.switches = switches_after(st.switches, st.last, x);
-    next.last = x;
+    next.switches = switches_after(st.switches, st.last, last);
+    next.last = last;
     next.t = st.t + 1;
     next
 }

@@ -14,9 +14,10 @@ use Rattle.rules.specs.Reading.{read, readSheet}
 use Rattle.rules.specs.Fields.{start, withTasks}
 use Rattle.rules.specs.Record.{recordAt, possible}
 use Rattle.rules.specs.Choice.{Runner, job, runnerByte, runner}
-use Rattle.rules.specs.Tick.{afterReleases, afterRunner, closed, runnerOf, tick}
+use Rattle.rules.specs.Tick.{afterReleases, afterRunner, ranLast, closed, runnerOf, tick}
 use Rattle.rules.specs.Run.{after, trace, written}
 use Rattle.rules.specs.declared.TaskRecord.{TaskRecord}
+use Rattle.rules.specs.declared.LastJob.{LastJob}
 use Rattle.rules.specs.declared.State.{State}
 use Rattle.rules.proofs.Laws.{length-row}
 use Rattle.rules.proofs.Possible.{Possible, possible-parts}
@@ -109,17 +110,20 @@ module _ (bytes : List ℕ) (sheet : Sheet) (e : readSheet bytes ≡ read sheet)
           ∙ ap (holders sheet) (sym spent)
 
 -- the parts of a tick are the tick
-pub tick-parts : (sheet : Sheet) (st a b r : State) (x : ℕ) → a ≡ withTasks st (afterReleases sheet st) → x ≡ runnerByte (runner sheet (a .tasks))
-    → b ≡ withTasks a (afterRunner (runnerNamed x) sheet (a .t) (a .tasks)) → r ≡ closed b x (b .tasks) → r ≡ tick sheet st
+pub tick-parts : (sheet : Sheet) (st a b r : State) (x : ℕ) (last : LastJob)
+    → a ≡ withTasks st (afterReleases sheet st) → x ≡ runnerByte (runner sheet (a .tasks)) → last ≡ ranLast (runnerNamed x) (a .tasks) (a .last)
+    → b ≡ withTasks a (afterRunner (runnerNamed x) sheet (a .t) (a .tasks)) → r ≡ closed b last (b .tasks) → r ≡ tick sheet st
 unfolding tick runnerOf closed
-tick-parts sheet st a b r x ea ex eb er =
-    er ∙ ap (λ (y : State). closed y x (y .tasks)) (ran-parts sheet st a b x ea ex eb)
-    ∙ ap (λ (y : ℕ). closed st y (afterRunner (runner sheet (afterReleases sheet st)) sheet (st .t) (afterReleases sheet st))) (byte-of sheet st a x ea ex)
+tick-parts sheet st a b r x last ea ex el eb er =
+    let next = afterRunner (runner sheet (afterReleases sheet st)) sheet (st .t) (afterReleases sheet st) in
+    er ∙ ap (λ (y : State). closed y last (y .tasks)) (ran-parts sheet st a b x ea ex eb)
+    ∙ ap (λ (j : LastJob). closed st j next) (el ∙ ap (λ (y : State). ranLast (runnerNamed x) (y .tasks) (y .last)) ea)
+    ∙ ap (λ (y : Runner). closed st (ranLast y (afterReleases sheet st) (st .last)) next) (runner-of sheet st a x ea ex)
 
 -- the end of a tick leaves the records
-pub closed-tasks : (b next : State) (x : ℕ) → next ≡ closed b x (b .tasks) → b .tasks ≡ next .tasks
+pub closed-tasks : (b next : State) (last : LastJob) → next ≡ closed b last (b .tasks) → b .tasks ≡ next .tasks
 unfolding closed
-closed-tasks b next x e = sym (ap (λ (y : State). y .tasks) e)
+closed-tasks b next last e = sym (ap (λ (y : State). y .tasks) e)
 
 -- no release before `due` is none from the next tick on
 pub quiet-on : (sheet : Sheet) (st next : State) (due : ℕ) → next ≡ tick sheet st → Quiet (st .t + 1) due sheet → Quiet (next .t) due sheet

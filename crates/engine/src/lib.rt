@@ -30,8 +30,9 @@ pub fn tick_of(s: &[u8], table: Table, cs: [u8; 16], st: State) -> OneTick
 {
     let a = effect::after_releases(s, table, st);
     let x = choice::runner_of(s, table, cs, a);
+    let last = effect::ran_last(x, a);
     let b = effect::after_runner(s, table, x, a);
-    let next = effect::closed(x, b);
+    let next = effect::closed(last, b);
     OneTick {
         runner: x,
         state: next,
@@ -62,6 +63,7 @@ pub fn run_of(s: &[u8], table: Table, cs: [u8; 16], h: u16, trace: &mut [u8]) ->
             due = effect::quiet_until(s, table, t);
         }
         let x = choice::runner_with(s, table, cs, hs, st);
+        let last = effect::ran_last(x, st);
         if x < 16 {
             let i = x as usize;
             let e = table::entry_at(table, i);
@@ -72,7 +74,7 @@ pub fn run_of(s: &[u8], table: Table, cs: [u8; 16], h: u16, trace: &mut [u8]) ->
             let held = holders::holders_after(s, e, x, before.job, after.job, hs);
             hs = held;
         }
-        let next = effect::closed(x, st);
+        let next = effect::closed(last, st);
         st = next;
         trace[k] = x;
         k += 1;

@@ -2,18 +2,19 @@
 use Prim.Native.Nat.{ℕ, _+_, _≤_, _<_}
 use mathlib.Core.Path.{_≡_, refl, sym, ap, ap₂, _∙_}
 use mathlib.Core.List.{List, [], _∷_}
-use mathlib.Core.Bool.{Bool, true, false, not, _&&_}
+use mathlib.Core.Bool.{Bool, true, false, not, _&&_, _||_}
 use native.Mathlib.Omega.{arith}
 use lib.ListN.{getD, drop}
-use borrow.Author.Tests.{lt-ltb, le-ltb, le-leb, lt-leb, eq-eqb, ne-eqb, not-true, not-false}
-use Rattle.rules.specs.Words.{if_then_else_, _≤?_, _=?_, _⇒_, within}
+use borrow.Author.Tests.{lt-ltb, le-ltb, le-leb, lt-leb, not-true, not-false}
+use Rattle.rules.specs.Words.{if_then_else_, _<?_, _≤?_, _=?_, _⇒_, within}
 use Rattle.rules.specs.Sheet.{Step, run, lock, unlock, Task, Sheet, isRun, isLock}
-use Rattle.rules.specs.Fields.{blank, place, zeros, zeroRecord}
-use Rattle.rules.specs.Record.{recordAt, ahead, countsFit, runnerFits, standsWell, jobFits, recordFits, noneHeldByTwo, possible}
+use Rattle.rules.specs.Fields.{blank, place, zeros, zeroRecord, noneYet, sameJob}
+use Rattle.rules.specs.Record.{recordAt, ahead, countsFit, lastFits, standsWell, jobFits, recordFits, noneHeldByTwo, possible}
 use Rattle.rules.specs.declared.Job.{Job}
 use Rattle.rules.specs.declared.TaskRecord.{TaskRecord}
+use Rattle.rules.specs.declared.LastJob.{LastJob}
 use Rattle.rules.specs.declared.State.{State}
-use Rattle.rules.proofs.Laws.{and-at, every-of, every-no}
+use Rattle.rules.proofs.Laws.{and-at, or-right, or-false, every-of, every-no}
 use Rattle.table.specs.Table.{here, taskOf, entryOf, sheetOf}
 use Rattle.table.specs.Steps.{hereIs, ticksOf}
 use Rattle.table.specs.declared.Entry.{Entry}
@@ -22,20 +23,21 @@ use Rattle.table.specs.declared.Here.{Here}
 use Rattle.table.proofs.Laws.{task-at, tasks-count}
 use Rattle.possible.specs.Records.{recordsFit}
 
--- the last runner
-module _ (n x : ℕ) where
-  pub rank-fits : x < n → true ≡ runnerFits n x
-  unfolding runnerFits
-  rank-fits l = rw (lt-ltb x n l) refl
+-- the remembered job: none has run, or its rank and release tick decide
+module _ (n t : ℕ) (j none : LastJob) (en : none ≡ noneYet) (a : Bool) (ea : a ≡ sameJob j none) where
+  last-by : lastFits n t j ≡ (j .rank <? n && j .release <? t || a)
+  unfolding lastFits
+  last-by = ap (λ (b : Bool). j .rank <? n && j .release <? t || b) (sym (ea ∙ ap (sameJob j) en))
 
-  module _ (l : n ≤ x) where
-    pub stuck-fits : x ≡ 254 → true ≡ runnerFits n x
-    unfolding runnerFits
-    stuck-fits e = rw (le-ltb x n l, eq-eqb x 254 e) refl
+  pub none-fits : a ≡ true → true ≡ lastFits n t j
+  none-fits h = sym (last-by ∙ or-right (j .rank <? n && j .release <? t) a h)
 
-    pub else-idle : (x ≡ 254 → ⊥) → (x =? 255) ≡ runnerFits n x
-    unfolding runnerFits
-    else-idle e = rw (le-ltb x n l, ne-eqb x 254 e) refl
+  module _ (h : a ≡ false) where
+    pub rank-off : n ≤ j .rank → false ≡ lastFits n t j
+    rank-off l = sym (last-by ∙ rw (h, le-ltb (j .rank) n l) refl)
+
+    pub else-released : j .rank < n → (j .release <? t) ≡ lastFits n t j
+    else-released l = sym (last-by ∙ rw (h, lt-ltb (j .rank) n l) (or-false (j .release <? t)))
 
 -- 1 to its full length
 module _ (full left : ℕ) where
@@ -139,20 +141,20 @@ module _ (bytes : List ℕ) (table : Table) (st : State) where
     unfolding possible
     many-switches m = rw (le-leb (st .t) 60000 l, lt-leb (st .switches) (st .t) m) refl
 
-    module _ (m : st .switches ≤ st .t) (a : Bool) (ea : a ≡ runnerFits (table .n) (st .last)) where
-      from-runner : possible (sheetOf bytes table) st ≡ (a && recordsFit (sheetOf bytes table) st && noneHeldByTwo (sheetOf bytes table) (st .tasks))
+    module _ (m : st .switches ≤ st .t) (a : Bool) (ea : a ≡ lastFits (table .n) (st .t) (st .last)) where
+      from-last : possible (sheetOf bytes table) st ≡ (a && recordsFit (sheetOf bytes table) st && noneHeldByTwo (sheetOf bytes table) (st .tasks))
       unfolding possible recordsFit
-      from-runner =
+      from-last =
           (rw (le-leb (st .t) 60000 l, le-leb (st .switches) (st .t) m) refl)
           ∙ ap (λ (b : Bool). b && recordsFit (sheetOf bytes table) st && noneHeldByTwo (sheetOf bytes table) (st .tasks))
-          (ap (λ (n : ℕ). runnerFits n (st .last)) (tasks-count bytes table) ∙ sym ea)
+          (ap (λ (n : ℕ). lastFits n (st .t) (st .last)) (tasks-count bytes table) ∙ sym ea)
 
-      pub runner-off : not a ≡ true → false ≡ possible (sheetOf bytes table) st
-      runner-off h = sym (from-runner ∙ rw (not-true a h) refl)
+      pub last-off : not a ≡ true → false ≡ possible (sheetOf bytes table) st
+      last-off h = sym (from-last ∙ rw (not-true a h) refl)
 
       module _ (h : not a ≡ false) (b : Bool) (eb : b ≡ recordsFit (sheetOf bytes table) st) where
         pub records-off : not b ≡ true → false ≡ possible (sheetOf bytes table) st
-        records-off k = sym (from-runner ∙ rw (not-false a h, ← eb, not-true b k) refl)
+        records-off k = sym (from-last ∙ rw (not-false a h, ← eb, not-true b k) refl)
 
         pub else-single : not b ≡ false → (z : Bool) → z ≡ noneHeldByTwo (sheetOf bytes table) (st .tasks) → z ≡ possible (sheetOf bytes table) st
-        else-single k z ez = sym (from-runner ∙ rw (not-false a h, ← eb, not-false b k) (sym ez))
+        else-single k z ez = sym (from-last ∙ rw (not-false a h, ← eb, not-false b k) (sym ez))

@@ -4,13 +4,14 @@ ghost use mathlib.Core.Path.{_≡_};
 ghost use Prim.Native.Nat.{_<_};
 ghost use lib.ListN.{drop};
 ghost use Rattle.rules.specs.Words.{within};
-ghost use Rattle.rules.specs.Record.{runnerFits, standsWell, jobFits, recordFits, noneHeldByTwo, possible};
+ghost use Rattle.rules.specs.Record.{lastFits, standsWell, jobFits, recordFits, noneHeldByTwo, possible};
 ghost use Rattle.table.specs.Table.{taskOf, sheetOf, Lies, Tabled};
 ghost use Rattle.possible.specs.Records.{recordsFit};
 ghost use Rattle.possible.specs.Holding.{sameHolder, sameHolders, holdsAlone};
 use holders::after_steps;
 use holders::holders_of;
 use rules::Job;
+use rules::LastJob;
 use rules::State;
 use rules::TaskRecord;
 use table::Entry;
@@ -21,17 +22,17 @@ use table::is_of;
 use table::step_at;
 use table::ticks_of;
 
-// the last runner is a rank below n, 254 or 255;
-fn runner_fits(n: u8, x: u8) -> bool
-    ensures { λ r. ⌜ r ≡ runnerFits n x ⌝ }
+// the remembered job's rank is below n and its release tick below t, unless the pair is 255 and 0;
+fn last_fits(n: u8, t: u16, j: LastJob) -> bool
+    ensures { λ r. ⌜ r ≡ lastFits n t j ⌝ }
 {
-    if x < n {
+    if record::same_job(j, record::none_yet()) {
         return true;
     }
-    if x == 254 {
-        return true;
+    if n <= j.rank {
+        return false;
     }
-    x == 255
+    j.release < t
 }
 
 // 1 to its full length left;
@@ -178,7 +179,7 @@ pub fn possible_state(s: &[u8], table: Table, st: State) -> bool
     if t < st.switches {
         return false;
     }
-    if !runner_fits(table.n, st.last) {
+    if !last_fits(table.n, t, st.last) {
         return false;
     }
     if !records_fit(s, table, st) {

@@ -8,12 +8,13 @@ use native.Mathlib.Omega.{arith}
 use lib.ListN.{length, getD, replicate}
 use borrow.Author.Tests.{le-leb, eq-eqb, ne-eqb, not-true, not-false, leb-true, leb-false}
 use Rattle.rules.specs.Words.{_≤?_, _=?_, all}
-use Rattle.rules.specs.Fields.{Completions, WorstResponse, placeOf, counts, counted, withCount, up, noJob, place, blank, zeros, zeroRecord, noState, start}
+use Rattle.rules.specs.Fields.{Completions, WorstResponse, placeOf, counts, counted, withCount, up, noJob, place, blank, zeros, zeroRecord, lastJob, noneYet, sameJob, noState, start}
 use Rattle.rules.specs.Record.{countsFit}
 use Rattle.rules.specs.Tick.{completed}
 use Rattle.rules.specs.declared.Job.{Job}
 use Rattle.rules.specs.declared.Counts.{Counts}
 use Rattle.rules.specs.declared.TaskRecord.{TaskRecord}
+use Rattle.rules.specs.declared.LastJob.{LastJob}
 use Rattle.rules.specs.declared.State.{State}
 use Rattle.rules.proofs.Laws.{sure, and-true}
 use Rattle.rules.proofs.Fields.{all-at}
@@ -88,9 +89,22 @@ pub completed-with : (response : ℕ) (c : Counts) (w : ℕ) → w ≡ max (c .w
     → withCount WorstResponse w (up Completions c) ≡ completed response c
 completed-with response c w e = rw e refl
 
--- a record of no job and zero counts, and the start
+-- a record of no job and zero counts, a run's record that is zero, and the start
 pub blank-of : (j : Job) (c : Counts) → j ≡ noJob → c ≡ counts (λ k. getD (replicate 6 0) (placeOf k) 0) → record { job = j; counts = c } ≡ blank
 blank-of j c ej ec = rw (ej, ec) refl
 
-pub start-of : (st : State) → st ≡ noState → record { t = st .t; switches = st .switches; last = 255; tasks = st .tasks } ≡ start
-start-of st e = rw e refl
+pub no-state-of : (r : TaskRecord) (j : LastJob) → r ≡ blank → j ≡ lastJob 0 0 → record { t = 0; switches = 0; last = j; tasks = replicate 16 r } ≡ noState
+no-state-of r j er ej = rw (er, ej) refl
+
+pub start-of : (st : State) → st ≡ noState → (j : LastJob) → j ≡ noneYet → record { t = st .t; switches = st .switches; last = j; tasks = st .tasks } ≡ start
+start-of st e j ej = rw (e, ej) refl
+
+-- the same job: by its rank, and then by its release tick
+module _ (a b : LastJob) where
+  pub other-rank : (a .rank ≡ b .rank → ⊥) → false ≡ sameJob a b
+  unfolding sameJob
+  other-rank n = rw (ne-eqb (a .rank) (b .rank) n) refl
+
+  pub else-release : a .rank ≡ b .rank → (a .release =? b .release) ≡ sameJob a b
+  unfolding sameJob
+  else-release e = rw (eq-eqb (a .rank) (b .rank) e) refl

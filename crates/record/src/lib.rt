@@ -2,12 +2,13 @@
 // every field. The other crates name a field only where a rule is about it.
 use rules::Counts;
 use rules::Job;
+use rules::LastJob;
 use rules::State;
 use rules::TaskRecord;
 ghost use mathlib.Core.Path.{_≡_};
 ghost use Prim.Native.Nat.{_<_, max};
 ghost use lib.ListN.{getD};
-ghost use Rattle.rules.specs.Fields.{Releases, Misses, TicksRun, TicksBlocked, placeOf, counts, counted, up, standing, movedTo, noJob, place, blank, zeros, zeroRecord, noState, start};
+ghost use Rattle.rules.specs.Fields.{Releases, Misses, TicksRun, TicksBlocked, placeOf, counts, counted, up, standing, movedTo, noJob, place, blank, zeros, zeroRecord, lastJob, noneYet, sameJob, noState, start};
 ghost use Rattle.rules.specs.Record.{countsFit};
 ghost use Rattle.rules.specs.Tick.{completed};
 
@@ -129,6 +130,31 @@ pub fn no_job() -> Job
     }
 }
 
+// The job that ran last, by rank and release tick; none has run; the same job.
+pub fn last_job(rank: u8, release: u16) -> LastJob
+    ensures { λ r. ⌜ r ≡ lastJob rank release ⌝ }
+{
+    LastJob {
+        rank: rank,
+        release: release,
+    }
+}
+
+pub fn none_yet() -> LastJob
+    ensures { λ r. ⌜ r ≡ noneYet ⌝ }
+{
+    last_job(255, 0)
+}
+
+pub fn same_job(a: LastJob, b: LastJob) -> bool
+    ensures { λ r. ⌜ r ≡ sameJob a b ⌝ }
+{
+    if a.rank != b.rank {
+        return false;
+    }
+    a.release == b.release
+}
+
 // A task's record that is zero, a run's, and the start.
 pub fn blank() -> TaskRecord
     ensures { λ r. ⌜ r ≡ blank ⌝ }
@@ -142,10 +168,11 @@ pub fn no_state() -> State
     ensures { λ r. ⌜ r ≡ noState ⌝ }
 {
     let z = blank();
+    let zero = last_job(0, 0);
     State {
         t: 0,
         switches: 0,
-        last: 0,
+        last: zero,
         tasks: [z; 16],
     }
 }
@@ -154,7 +181,7 @@ pub fn start() -> State
     ensures { λ r. ⌜ r ≡ start ⌝ }
 {
     let mut st = no_state();
-    st.last = 255;
+    st.last = none_yet();
     st
 }
 

@@ -15,7 +15,7 @@ proved = (
       (
         (refl, (refl, (refl, (refl, tt)))),
         (
-          (refl, (refl, (refl, tt))),
+          (refl, (refl, (refl, (refl, tt)))),
           (
             (refl, (refl, tt)),
             (

@@ -10,10 +10,10 @@ use borrow.Author.Tests.{eqb-true}
 use Rattle.rules.specs.Words.{if_then_else_, _=?_, any, among}
 use Rattle.rules.specs.Sheet.{Task, Sheet, taskAt, heldOnTop, held}
 use Rattle.rules.specs.Reading.{read, readSheet}
-use Rattle.rules.specs.Fields.{Count, Releases, Completions, Misses, TicksRun, TicksBlocked, WorstResponse, count, up, noJob, blank, start}
+use Rattle.rules.specs.Fields.{Count, Releases, Completions, Misses, TicksRun, TicksBlocked, WorstResponse, count, up, noJob, blank, sameJob, start}
 use Rattle.rules.specs.Record.{recordAt, behind, ahead, carries, holds, possible}
-use Rattle.rules.specs.Choice.{Runner, job, stuck, idle, runnerByte, heldByOther, runner}
-use Rattle.rules.specs.Tick.{released, afterReleases, completed, advanced, spent, afterRunner, closed, runnerOf, tick}
+use Rattle.rules.specs.Choice.{Runner, job, stuck, idle, heldByOther, runner}
+use Rattle.rules.specs.Tick.{released, afterReleases, completed, advanced, spent, afterRunner, ranLast, closed, runnerOf, tick}
 use Rattle.rules.specs.Run.{after}
 use Rattle.rules.specs.Laws.{TaskLimits, takes, MayRun, RunnerMayRun, StartPossible, TickPossible}
 use Rattle.rules.specs.declared.Job.{Job}
@@ -25,7 +25,7 @@ use Rattle.rules.proofs.Limits.{acceptedWithinLimits}
 use Rattle.rules.proofs.Runner.{runner-may}
 use Rattle.rules.proofs.Tick.{released-cases, advanced-cases, spent-cases, released-at, past-at, spent-at}
 use Rattle.rules.proofs.Fields.{CountsFit, Within, set-within, blank-counts}
-use Rattle.rules.proofs.Possible.{JobFits, RunnerFits, Single, Possible, possible-parts, parts-possible}
+use Rattle.rules.proofs.Possible.{JobFits, LastFits, Single, Possible, possible-parts, parts-possible}
 use Rattle.rules.proofs.Steps.{next-run, goes-on-well, begins-well, comes-well, advanced-carries}
 
 -- no job fits at any tick,
@@ -45,7 +45,7 @@ startPossible bytes sheet e =
     parts-possible sheet start (record {
       time = omega arith;
       switches = omega arith;
-      last = inr (inr refl);
+      last = inr refl;
       counts = λ i l. subst (λ (r : TaskRecord). CountsFit 0 (r .counts)) (sym (at i l)) (blank-counts 0);
       job = λ i l. subst (λ (r : TaskRecord). JobFits 0 (taskAt sheet i) (r .job)) (sym (at i l)) (blank-job 0 (taskAt sheet i));
       past = λ i l h. at i l;
@@ -233,12 +233,18 @@ module _ (bytes : List ℕ) (sheet : Sheet) (e : readSheet bytes ≡ read sheet)
         go (inr a) (inl b) = sym (took-alone i j s lj ls (a .0) (a .1) b)
         go (inr a) (inr b) = let z : job i ≡ job j = sym (a .0) ∙ b .0 in cc
 
-    -- the runner's byte, and the switches
-    byte-fits : (y : Runner) → ((k : ℕ) → y ≡ job k → k < n) → RunnerFits n (runnerByte y)
-    unfolding runnerByte
-    byte-fits (job k) h = inl (h k refl)
-    byte-fits stuck h = inr (inl refl)
-    byte-fits idle h = inr (inr refl)
+    -- the job that ran last: the runner was released by this tick, and nobody else takes its place
+    last-waits : LastFits n (st .t) (st .last) → LastFits n (st .t + 1) (st .last)
+    last-waits (inl (r, l)) = inl (r, omega arith)
+    last-waits (inr z) = inr z
+
+    ran-fits : (y : Runner) → ((k : ℕ) → y ≡ job k → MayRun sheet rs k) → LastFits n (st .t + 1) (ranLast y rs (st .last))
+    unfolding ranLast
+    ran-fits (job k) h =
+        let μ = h k refl in
+        inl (μ .rank, released-fits k (omega (arith, μ .rank, acceptedWithinLimits bytes sheet e .tasksTo)) .release (μ .pending))
+    ran-fits stuck h = last-waits (π .last)
+    ran-fits idle h = last-waits (π .last)
 
     -- at most one switch a tick
     switches-rise : (b : Bool) → (if b then st .switches else st .switches + 1) ≤ st .t + 1
@@ -246,12 +252,12 @@ module _ (bytes : List ℕ) (sheet : Sheet) (e : readSheet bytes ≡ read sheet)
     switches-rise false = omega (arith, π .switches)
 
     -- all parts together
-    pub ticked-possible : st .t < 60000 → Possible sheet (closed st (runnerByte x) next)
+    pub ticked-possible : st .t < 60000 → Possible sheet (closed st (ranLast x rs (st .last)) next)
     unfolding closed
     ticked-possible early = record {
       time = omega arith;
-      switches = switches-rise (runnerByte x =? st .last);
-      last = byte-fits x (λ k z. may k z .rank);
+      switches = switches-rise (sameJob (ranLast x rs (st .last)) (st .last));
+      last = ran-fits x may;
       counts = λ i l. subst (λ (r : TaskRecord). CountsFit (st .t + 1) (r .counts)) (sym (spent-at x sheet (st .t) rs i l)) (counts-spent x (st .t) i (taskAt sheet i) (recordAt rs i) (released-rising i l));
       job = next-fits;
       past = next-past;

@@ -3,20 +3,21 @@ use Prim.Native.Nat.{ℕ, zero, suc, _≤_, _<_}
 use mathlib.Core.Path.{_≡_, refl, ap, ap₂}
 use mathlib.Core.Logic.{_⊎_, inl, inr, ⊎-elim}
 use mathlib.Core.List.{List, [], _∷_}
-use mathlib.Core.Bool.{Bool, true, false, not, _&&_, _||_}
+use mathlib.Core.Bool.{Bool, true, false, not, _&&_}
 use native.Mathlib.Omega.{arith}
 use lib.ListN.{length, drop}
 use borrow.Author.Tests.{ltb-true, leb-true, eqb-true, lt-ltb, le-leb, eq-eqb, not-true}
 use Rattle.rules.specs.Words.{if_then_else_, _<?_, _≤?_, _=?_, _⇒_, every, all}
 use Rattle.rules.specs.Sheet.{Step, Task, Sheet, taskAt}
-use Rattle.rules.specs.Fields.{noJob, blank, place, counted, zeros, zeroRecord}
-use Rattle.rules.specs.Record.{recordAt, ahead, holds, countsFit, runnerFits, standsWell, jobFits, recordFits, noneHeldByTwo, possible}
+use Rattle.rules.specs.Fields.{noJob, blank, place, counted, zeros, zeroRecord, noneYet, sameJob}
+use Rattle.rules.specs.Record.{recordAt, ahead, holds, countsFit, lastFits, standsWell, jobFits, recordFits, noneHeldByTwo, possible}
 use Rattle.rules.specs.declared.Job.{Job}
 use Rattle.rules.specs.declared.Counts.{Counts}
 use Rattle.rules.specs.declared.TaskRecord.{TaskRecord}
+use Rattle.rules.specs.declared.LastJob.{LastJob}
 use Rattle.rules.specs.declared.State.{State}
 use Rattle.rules.proofs.Fields.{CountsFit, counts-fit, fit-counts, no-counts}
-use Rattle.rules.proofs.Laws.{sure, below, true-false, and-left, and-right, and-both, or-cases, or-right, implied, implies-yes, every-at, every-of}
+use Rattle.rules.proofs.Laws.{sure, true-false, and-left, and-right, and-both, or-cases, or-right, implied, implies-yes, every-at, every-of}
 
 -- a task not pending has position, left and release tick zero; a pending one has a release tick below t, and stands well
 pub record JobFits (t : ℕ) (task : Task) (j : Job) : Type 0 where
@@ -24,9 +25,9 @@ pub record JobFits (t : ℕ) (task : Task) (j : Job) : Type 0 where
   pub release : j .pending ≡ true → j .release < t
   pub stands : j .pending ≡ true → standsWell (ahead task j) (j .left) ≡ true
 
--- the last runner is a rank below n, 254 or 255
-abbrev pub RunnerFits : (n x : ℕ) → Type 0
-RunnerFits n x = (x < n) ⊎ (x ≡ 254) ⊎ (x ≡ 255)
+-- the remembered job's rank is below n and its release tick below t, or none has run
+abbrev pub LastFits : (n t : ℕ) → LastJob → Type 0
+LastFits n t j = ((j .rank < n) × (j .release < t)) ⊎ (j ≡ noneYet)
 
 -- no semaphore is held by two
 abbrev pub Single : (ℕ → ℕ → Bool) → Type 0
@@ -53,7 +54,7 @@ module _ (sheet : Sheet) (records : List TaskRecord) where
 pub record Possible (sheet : Sheet) (st : State) : Type 0 where
   pub time : st .t ≤ 60000
   pub switches : st .switches ≤ st .t
-  pub last : RunnerFits (length (sheet .tasks)) (st .last)
+  pub last : LastFits (length (sheet .tasks)) (st .t) (st .last)
   pub counts : (i : ℕ) → i < 16 → CountsFit (st .t) (recordAt (st .tasks) i .counts)
   pub job : (i : ℕ) → i < 16 → JobFits (st .t) (taskAt sheet i) (recordAt (st .tasks) i .job)
   pub past : (i : ℕ) → i < 16 → length (sheet .tasks) ≤ i → recordAt (st .tasks) i ≡ blank
@@ -108,20 +109,32 @@ is-blank r e =
     let counts = no-counts (r .counts) (and-right (not (r .job .pending) && zeros (place (r .job))) _ e) in
     ap₂ (λ (j : Job) (c : Counts). record { job = j; counts = c }) job counts
 
--- the last runner
-pub runner-fits : (n x : ℕ) → runnerFits n x ≡ true → RunnerFits n x
-unfolding runnerFits
-runner-fits n x e = ⊎-elim
-    (λ (u : (x <? n || x =? 254) ≡ true). ⊎-elim (λ v. inl (ltb-true x n v)) (λ v. inr (inl (eqb-true x 254 v))) (or-cases (x <? n) (x =? 254) u))
-    (λ (u : (x =? 255) ≡ true). inr (inr (eqb-true x 255 u)))
-    (or-cases (x <? n || x =? 254) (x =? 255) e)
+-- two jobs are the same where rank and release tick are
+pub same-job : (a b : LastJob) → sameJob a b ≡ true → a ≡ b
+unfolding sameJob
+same-job a b e =
+    ap₂ (λ (rank release : ℕ). record { rank = rank; release = release })
+    (eqb-true (a .rank) (b .rank) (and-left (a .rank =? b .rank) _ e))
+    (eqb-true (a .release) (b .release) (and-right (a .rank =? b .rank) _ e))
 
--- the last runner, back
-pub fit-runner : (n x : ℕ) → RunnerFits n x → runnerFits n x ≡ true
-unfolding runnerFits
-fit-runner n x (inl l) = rw (lt-ltb x n l) refl
-fit-runner n x (inr (inl e)) = rw e (ap (λ (b : Bool). b || false) (or-right (254 <? n) true refl))
-fit-runner n x (inr (inr e)) = rw e (or-right (255 <? n || false) true refl)
+pub job-same : (a : LastJob) → sameJob a a ≡ true
+unfolding sameJob
+job-same a = rw (eq-eqb (a .rank) (a .rank) refl, eq-eqb (a .release) (a .release) refl) refl
+
+-- the remembered job
+last-fits : (n t : ℕ) (j : LastJob) → lastFits n t j ≡ true → LastFits n t j
+unfolding lastFits
+last-fits n t j e = ⊎-elim
+    (λ (u : (j .rank <? n && j .release <? t) ≡ true).
+    inl (ltb-true (j .rank) n (and-left (j .rank <? n) _ u), ltb-true (j .release) t (and-right (j .rank <? n) _ u)))
+    (λ (u : sameJob j noneYet ≡ true). inr (same-job j noneYet u))
+    (or-cases (j .rank <? n && j .release <? t) (sameJob j noneYet) e)
+
+-- the remembered job, back
+fit-last : (n t : ℕ) (j : LastJob) → LastFits n t j → lastFits n t j ≡ true
+unfolding lastFits sameJob
+fit-last n t j (inl (r, l)) = rw (lt-ltb (j .rank) n r, lt-ltb (j .release) t l) refl
+fit-last n t j (inr e) = or-right (j .rank <? n && j .release <? t) (sameJob j noneYet) (ap (λ (k : LastJob). sameJob k noneYet) e)
 
 -- the whole
 module _ (sheet : Sheet) (st : State) where
@@ -136,19 +149,19 @@ module _ (sheet : Sheet) (st : State) where
       let n = length (sheet .tasks) in
       let upTo4 = and-left _ (noneHeldByTwo sheet (st .tasks)) e in
       let upTo3 = and-left _ (every 16 Rank) upTo4 in
-      let upTo2 = and-left _ (runnerFits n (st .last)) upTo3 in
-      let rank = every-at 16 Rank (and-right (st .t ≤? 60000 && st .switches ≤? st .t && runnerFits n (st .last)) _ upTo4) in
+      let upTo2 = and-left _ (lastFits n (st .t) (st .last)) upTo3 in
+      let rank = every-at 16 Rank (and-right (st .t ≤? 60000 && st .switches ≤? st .t && lastFits n (st .t) (st .last)) _ upTo4) in
       record {
         time = leb-true (st .t) 60000 (and-left (st .t ≤? 60000) _ upTo2);
         switches = leb-true (st .switches) (st .t) (and-right (st .t ≤? 60000) _ upTo2);
-        last = runner-fits n (st .last) (and-right (st .t ≤? 60000 && st .switches ≤? st .t) _ upTo3);
+        last = last-fits n (st .t) (st .last) (and-right (st .t ≤? 60000 && st .switches ≤? st .t) _ upTo3);
         counts = λ i l. let r = recordAt (st .tasks) i in
             counts-fit (st .t) (r .counts) (and-left _ (jobFits (st .t) (taskAt sheet i) (r .job)) (and-left _ (n ≤? i ⇒ zeroRecord r) (rank i l)));
         job = λ i l. let r = recordAt (st .tasks) i in
             job-fits (st .t) (taskAt sheet i) (r .job) (and-right (countsFit (st .t) (r .counts)) _ (and-left _ (n ≤? i ⇒ zeroRecord r) (rank i l)));
         past = λ i l h. let r = recordAt (st .tasks) i in
             is-blank r (implies-yes (n ≤? i) (zeroRecord r) (and-right (countsFit (st .t) (r .counts) && jobFits (st .t) (taskAt sheet i) (r .job)) _ (rank i l)) (le-leb n i h));
-        single = held-by-one sheet (st .tasks) (and-right (st .t ≤? 60000 && st .switches ≤? st .t && runnerFits n (st .last) && every 16 Rank) _ e);
+        single = held-by-one sheet (st .tasks) (and-right (st .t ≤? 60000 && st .switches ≤? st .t && lastFits n (st .t) (st .last) && every 16 Rank) _ e);
       }
 
   -- and the parts give the test
@@ -156,7 +169,7 @@ module _ (sheet : Sheet) (st : State) where
   unfolding possible recordFits Rank zeroRecord zeros place counted all
   parts-possible f =
       let n = length (sheet .tasks) in
-      let last = fit-runner n (st .last) (f .last) in
+      let last = fit-last n (st .t) (st .last) (f .last) in
       let rank = every-of 16 Rank (λ i l. let r = recordAt (st .tasks) i in
       and-both (countsFit (st .t) (r .counts) && jobFits (st .t) (taskAt sheet i) (r .job)) (n ≤? i ⇒ zeroRecord r)
       (and-both _ _ (fit-counts (st .t) (r .counts) (f .counts i l)) (fit-job (st .t) (taskAt sheet i) (r .job) (f .job i l)))

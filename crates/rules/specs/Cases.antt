@@ -8,7 +8,7 @@ use lib.IntN.{ℤ, pos, negsuc}
 use Rattle.rules.specs.Words.{row}
 use Rattle.rules.specs.Sheet.{Sheet}
 use Rattle.rules.specs.Reading.{Reading, read, refused, readSheet}
-use Rattle.rules.specs.Fields.{Releases, TicksRun, up, standing, noCounts, counted, blank, start}
+use Rattle.rules.specs.Fields.{Releases, TicksRun, up, standing, noCounts, counted, blank, lastJob, start}
 use Rattle.rules.specs.Record.{recordAt, possible}
 use Rattle.rules.specs.Laws.{All}
 use Rattle.rules.specs.Run.{after, trace}
@@ -83,7 +83,7 @@ A = record {
   outcomes =
       Ticks 10
       ∷ Trace (1 ∷ 1 ∷ 0 ∷ 1 ∷ 1 ∷ 0 ∷ 1 ∷ 255 ∷ 255 ∷ 255 ∷ [])
-      ∷ Switches 6
+      ∷ Switches 5
       ∷ Counts 0 (1 ∷ 1 ∷ 0 ∷ 2 ∷ 2 ∷ 4 ∷ [])
       ∷ Counts 1 (1 ∷ 1 ∷ 0 ∷ 5 ∷ 0 ∷ 7 ∷ [])
       ∷ Bounds (3 ∷ 0 ∷ [])
@@ -100,7 +100,7 @@ A2 = record {
   ticks = 10;
   outcomes =
       Trace (1 ∷ 1 ∷ 1 ∷ 1 ∷ 0 ∷ 0 ∷ 1 ∷ 255 ∷ 255 ∷ 255 ∷ [])
-      ∷ Switches 4
+      ∷ Switches 3
       ∷ Counts 0 (1 ∷ 1 ∷ 0 ∷ 2 ∷ 2 ∷ 4 ∷ [])
       ∷ [];
 }
@@ -113,7 +113,7 @@ A3 = record {
   ticks = 10;
   outcomes =
       Trace (1 ∷ 1 ∷ 0 ∷ 1 ∷ 1 ∷ 0 ∷ 1 ∷ 2 ∷ 2 ∷ 255 ∷ [])
-      ∷ Switches 7
+      ∷ Switches 6
       ∷ Counts 0 (1 ∷ 1 ∷ 0 ∷ 2 ∷ 2 ∷ 4 ∷ [])
       ∷ Counts 1 (1 ∷ 1 ∷ 0 ∷ 5 ∷ 0 ∷ 7 ∷ [])
       ∷ [];
@@ -144,6 +144,7 @@ D = record {
   ticks = 5;
   outcomes =
       Trace (0 ∷ 0 ∷ 0 ∷ 255 ∷ 0 ∷ [])
+      ∷ Switches 2
       ∷ Counts 0 (3 ∷ 1 ∷ 1 ∷ 4 ∷ 0 ∷ 3 ∷ [])
       ∷ [];
 }
@@ -171,7 +172,7 @@ E = record {
       headBytes 2 2 0
       ++ taskBytes 20 0 6 ++ lockBytes 0 ++ runBytes 1 ++ lockBytes 1 ++ runBytes 1 ++ unlockBytes 1 ++ unlockBytes 0
       ++ taskBytes 20 0 6 ++ lockBytes 1 ++ runBytes 1 ++ lockBytes 0 ++ runBytes 1 ++ unlockBytes 0 ++ unlockBytes 1;
-  from = record { t = 2; switches = 2; last = 1; tasks = atSecondLock ∷ atSecondLock ∷ replicate 14 blank };
+  from = record { t = 2; switches = 2; last = lastJob 1 0; tasks = atSecondLock ∷ atSecondLock ∷ replicate 14 blank };
   ticks = 1;
   outcomes =
       Trace (254 ∷ [])

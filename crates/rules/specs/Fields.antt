@@ -7,6 +7,7 @@ use Rattle.rules.specs.Words.{if_then_else_, _=?_, all}
 use Rattle.rules.specs.declared.Job.{Job}
 use Rattle.rules.specs.declared.Counts.{Counts}
 use Rattle.rules.specs.declared.TaskRecord.{TaskRecord}
+use Rattle.rules.specs.declared.LastJob.{LastJob}
 use Rattle.rules.specs.declared.State.{State}
 
 -- The counts of releases, completions, misses, ticks run, ticks blocked, and the worst response: by name,
@@ -83,13 +84,23 @@ zeros xs = all (λ x. x =? 0) xs
 unfoldable pub zeroRecord : TaskRecord → Bool
 zeroRecord r = not (r .job .pending) && zeros (place (r .job)) && zeros (counted (r .counts))
 
+-- The job that ran last, by rank and release tick, 255 and 0 while none has run. It is the same job where both are.
+abbrev pub lastJob : (rank release : ℕ) → LastJob
+lastJob rank release = record { rank = rank; release = release }
+
+abbrev pub noneYet : LastJob
+noneYet = lastJob 255 0
+
+unfoldable pub sameJob : LastJob → LastJob → Bool
+sameJob a b = a .rank =? b .rank && a .release =? b .release
+
 -- The record of a run: with other task records, one that is zero, and the start, where everything is zero, nobody is
--- pending, and the last runner is 255.
+-- pending, and no job has run.
 abbrev pub withTasks : State → List TaskRecord → State
 withTasks st records = record { t = st .t; switches = st .switches; last = st .last; tasks = records }
 
 abbrev pub noState : State
-noState = record { t = 0; switches = 0; last = 0; tasks = replicate 16 blank }
+noState = record { t = 0; switches = 0; last = lastJob 0 0; tasks = replicate 16 blank }
 
 abbrev pub start : State
-start = record { t = 0; switches = 0; last = 255; tasks = replicate 16 blank }
+start = record { t = 0; switches = 0; last = noneYet; tasks = replicate 16 blank }

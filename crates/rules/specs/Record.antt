@@ -5,10 +5,11 @@ use mathlib.Core.Bool.{Bool, false, _&&_, _||_}
 use lib.ListN.{length, getD, take, drop}
 use Rattle.rules.specs.Words.{if_then_else_, _<?_, _≤?_, _=?_, _⇒_, within, every, all, among}
 use Rattle.rules.specs.Sheet.{Step, run, lock, unlock, Task, Sheet, taskAt, held}
-use Rattle.rules.specs.Fields.{blank, place, counted, zeros, zeroRecord}
+use Rattle.rules.specs.Fields.{blank, place, counted, zeros, zeroRecord, noneYet, sameJob}
 use Rattle.rules.specs.declared.Job.{Job}
 use Rattle.rules.specs.declared.Counts.{Counts}
 use Rattle.rules.specs.declared.TaskRecord.{TaskRecord}
+use Rattle.rules.specs.declared.LastJob.{LastJob}
 use Rattle.rules.specs.declared.State.{State}
 
 -- The record of a rank.
@@ -33,9 +34,9 @@ holds sheet records i s = carries (taskAt sheet i) (recordAt records i .job) s
 unfoldable pub countsFit : (t : ℕ) → Counts → Bool
 countsFit t c = all (λ x. x ≤? t) (counted c)
 
--- the last runner is a rank below n, 254 or 255;
-unfoldable pub runnerFits : (n x : ℕ) → Bool
-runnerFits n x = x <? n || x =? 254 || x =? 255
+-- the remembered job's rank is below n and its release tick below t, unless the pair is 255 and 0;
+unfoldable pub lastFits : (n t : ℕ) → LastJob → Bool
+lastFits n t j = j .rank <? n && j .release <? t || sameJob j noneYet
 
 -- (a pending one) stands at a run with 1 to its full length left, or at a lock with 0 left;
 unfoldable pub standsWell : (ahead : List Step) (left : ℕ) → Bool
@@ -65,6 +66,6 @@ unfoldable pub possible : Sheet → State → Bool
 possible sheet st =
     st .t ≤? 60000
     && st .switches ≤? st .t
-    && runnerFits (length (sheet .tasks)) (st .last)
+    && lastFits (length (sheet .tasks)) (st .t) (st .last)
     && every 16 (λ i. recordFits sheet (st .t) i (recordAt (st .tasks) i))
     && noneHeldByTwo sheet (st .tasks)

@@ -5,12 +5,13 @@ use mathlib.Core.Bool.{Bool, not, _&&_}
 use lib.ListN.{length, drop}
 use Rattle.rules.specs.Words.{if_then_else_, _<?_, _≤?_, _=?_, row, leading}
 use Rattle.rules.specs.Sheet.{Task, Sheet, taskAt, isLock, isUnlock}
-use Rattle.rules.specs.Fields.{Releases, Completions, Misses, TicksRun, TicksBlocked, WorstResponse, withCount, up, standing, movedTo, noJob, withJob, withCounts}
+use Rattle.rules.specs.Fields.{Releases, Completions, Misses, TicksRun, TicksBlocked, WorstResponse, withCount, up, standing, movedTo, noJob, withJob, withCounts, lastJob, sameJob}
 use Rattle.rules.specs.Record.{recordAt, ahead}
-use Rattle.rules.specs.Choice.{Runner, job, stuck, idle, runnerByte, full, runner}
+use Rattle.rules.specs.Choice.{Runner, job, stuck, idle, full, runner}
 use Rattle.rules.specs.declared.Job.{Job}
 use Rattle.rules.specs.declared.Counts.{Counts}
 use Rattle.rules.specs.declared.TaskRecord.{TaskRecord}
+use Rattle.rules.specs.declared.LastJob.{LastJob}
 use Rattle.rules.specs.declared.State.{State}
 
 -- 1. Task i has a release at t when t is at least its offset and t minus offset is a multiple of the period.
@@ -68,11 +69,23 @@ spent idle t i task r = r
 unfoldable pub afterRunner : Runner → Sheet → (t : ℕ) → List TaskRecord → List TaskRecord
 afterRunner x sheet t records = row 16 λ i. spent x t i (taskAt sheet i) (recordAt records i)
 
--- 7. A switch is counted when the runner differs from the last runner, idle included. Then t rises by one.
-unfoldable pub closed : State → (x : ℕ) → List TaskRecord → State
-closed st x records =
-    let switches = if x =? st .last then st .switches else st .switches + 1 in
-    record { t = st .t + 1; switches = switches; last = x; tasks = records }
+-- 7. The record remembers the job that ran last by rank and release tick,
+abbrev pub jobOf : List TaskRecord → (i : ℕ) → LastJob
+jobOf records i = lastJob i (recordAt records i .job .release)
+
+-- idle and stuck ticks passed over. (Of the records after the releases: there a job that completes in this tick still has its
+-- release tick.)
+unfoldable pub ranLast : Runner → List TaskRecord → (before : LastJob) → LastJob
+ranLast (job i) records before = jobOf records i
+ranLast stuck records before = before
+ranLast idle records before = before
+
+-- A switch is counted when a job runs and it is another job than the one that ran last; the first job to run counts.
+-- Then t rises by one.
+unfoldable pub closed : State → (last : LastJob) → List TaskRecord → State
+closed st last records =
+    let switches = if sameJob last (st .last) then st .switches else st .switches + 1 in
+    record { t = st .t + 1; switches = switches; last = last; tasks = records }
 
 -- The runner of a tick: the choice, after its releases.
 unfoldable pub runnerOf : Sheet → State → Runner
@@ -82,4 +95,5 @@ runnerOf sheet st = runner sheet (afterReleases sheet st)
 unfoldable pub tick : Sheet → State → State
 tick sheet st =
     let x = runnerOf sheet st in
-    closed st (runnerByte x) (afterRunner x sheet (st .t) (afterReleases sheet st))
+    let records = afterReleases sheet st in
+    closed st (ranLast x records (st .last)) (afterRunner x sheet (st .t) records)

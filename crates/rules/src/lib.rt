@@ -25,11 +25,17 @@ pub struct TaskRecord {
     pub counts: Counts,
 }
 
-// The record of a run: the tick, the switches, the last runner and the tasks by rank.
+// The job that ran last, by its rank and the tick of its release: 255 and 0 while none has run.
+pub struct LastJob {
+    pub rank: u8,
+    pub release: u16,
+}
+
+// The record of a run: the tick, the switches, the job that ran last and the tasks by rank.
 pub struct State {
     pub t: u16,
     pub switches: u16,
-    pub last: u8,
+    pub last: LastJob,
     pub tasks: [TaskRecord; 16],
 }
 

@@ -25,7 +25,7 @@ DecimalIsDecimal = (n : ℕ) → InDecimal n (decimal n)
 -- The numbers of document 01: A with horizon 10, and F, which is A with horizon 0.
 abbrev pub PrintedA : Type 0
 PrintedA = printed (0 ∷ 10 ∷ A .sheet) ≡
-    ascii "ticks 10 switches 6\n"
+    ascii "ticks 10 switches 5\n"
     ++ ascii "0 releases 1 done 1 missed 0 ran 2 blocked 2 worst 4 bound 3 laxity 5 by 1/1\n"
     ++ ascii "1 releases 1 done 1 missed 0 ran 5 blocked 0 worst 7 bound 0 laxity 11 by -\n"
     ++ ascii "trace 1 1 0 1 1 0 1 - - -\n"

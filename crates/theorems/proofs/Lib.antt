@@ -6,4 +6,5 @@ pub mod Runs
 pub mod Totals
 pub mod Needed
 pub mod Shams
+pub mod Switches
 pub mod Analysis

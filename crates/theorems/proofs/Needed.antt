@@ -107,7 +107,7 @@ modes-needed demand =
 switches-differ : WithSwitches → ⊥
 unfolding rules
 switches-differ demand =
-    let same : _≡_ {A = ℕ} 6 7 = demand 2 (A .sheet) (A3 .sheet) (sheetA 0) sheetA3 A-and-A3 10 (omega arith) in
+    let same : _≡_ {A = ℕ} 5 6 = demand 2 (A .sheet) (A3 .sheet) (sheetA 0) sheetA3 A-and-A3 10 (omega arith) in
     omega arith
 
 pub needed : Needed

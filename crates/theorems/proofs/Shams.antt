@@ -149,11 +149,12 @@ notAllAtOnce f m buffer z e =
     first-and-end (ap (λ (x : Ticked). x .state .tasks) (sym (m (A .sheet, start))) ∙ e ∙ ap (λ (x : State). x .tasks) end)
 
 -- rules 6 and 7
-ticked-switches : (bytes : List ℕ) (st : State) → NotRefused (ticked bytes st .told .refusal)
-    → ticked bytes st .state .switches ≡ st .switches + one (switchNow st (ticked bytes st .told .runner))
-ticked-switches bytes st z =
+ticked-switches : (bytes : List ℕ) (sheet : Sheet) (st : State) → Accepted bytes sheet → NotRefused (ticked bytes st .told .refusal)
+    → ticked bytes st .state .switches ≡ st .switches + one (switchNow sheet st (ticked bytes st .told .runner))
+ticked-switches bytes sheet st e z =
     let g = tick-goes bytes st z in
-    rw (g .1 .state, g .1 .runner) (tick-switches (g .0) st)
+    let same = one-sheet bytes (g .0) sheet (g .1 .accepted) e in
+    rw (g .1 .state, g .1 .runner, same) (tick-switches sheet st)
 
 ticked-blocked : (bytes : List ℕ) (sheet : Sheet) (st : State) → Accepted bytes sheet → NotRefused (ticked bytes st .told .refusal) → (i : ℕ) → i < 16
     → blockedOf (ticked bytes st .state) i ≡ blockedOf st i + one (blockedNow sheet st (ticked bytes st .told .runner) i)
@@ -163,8 +164,10 @@ ticked-blocked bytes sheet st e z i l =
     rw (g .1 .state, g .1 .runner, same) (tick-blocked sheet st i l)
 
 pub switchesFixed : SwitchesFixed
-switchesFixed f m bytes st =
-    as-ticked f m bytes st (λ r. NotRefused (r .told .refusal) → r .state .switches ≡ st .switches + one (switchNow st (r .told .runner))) (ticked-switches bytes st)
+switchesFixed f m bytes sheet st e =
+    as-ticked f m bytes st
+    (λ r. NotRefused (r .told .refusal) → r .state .switches ≡ st .switches + one (switchNow sheet st (r .told .runner)))
+    (ticked-switches bytes sheet st e)
 
 pub blockedFixed : BlockedFixed
 blockedFixed f m bytes sheet st e =

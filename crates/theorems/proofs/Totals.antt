@@ -1,6 +1,7 @@
 -- Rules 6 and 7 fix the totals tick by tick.
 use Prim.Native.Nat.{ℕ, zero, suc, _+_, _<_}
 use mathlib.Core.Path.{_≡_, refl, sym, ap, _∙_}
+use mathlib.Core.List.{List}
 use mathlib.Core.Bool.{Bool, true, false, not, _&&_}
 use native.Mathlib.Omega.{arith}
 use native.Mathlib.Nat.{add-zero}
@@ -8,14 +9,16 @@ use lib.ListN.{length, getD, replicate}
 use borrow.Author.Tests.{eqb-true, lt-ltb, le-ltb}
 use Rattle.rules.specs.Words.{if_then_else_, _<?_, _=?_, total}
 use Rattle.rules.specs.Sheet.{Task, Sheet, taskAt}
-use Rattle.rules.specs.Fields.{TicksRun, TicksBlocked, up, blank, start}
+use Rattle.rules.specs.Fields.{TicksRun, TicksBlocked, up, blank, sameJob, start}
 use Rattle.rules.specs.Record.{recordAt}
 use Rattle.rules.specs.Choice.{Runner, job, stuck, idle, runnerByte, runner}
-use Rattle.rules.specs.Tick.{released, afterReleases, advanced, spent, afterRunner, closed, runnerOf, tick}
+use Rattle.rules.specs.Tick.{released, afterReleases, advanced, spent, afterRunner, jobOf, ranLast, closed, runnerOf, tick}
 use Rattle.rules.specs.Run.{after}
 use Rattle.rules.specs.declared.TaskRecord.{TaskRecord}
+use Rattle.rules.specs.declared.LastJob.{LastJob}
 use Rattle.rules.specs.declared.State.{State}
 use Rattle.rules.proofs.Laws.{true-false, row-at, if-cases}
+use Rattle.rules.proofs.Possible.{job-same}
 use Rattle.rules.proofs.Runner.{runner-below}
 use Rattle.rules.proofs.Tick.{released-cases, advanced-cases}
 use Rattle.theorems.specs.Shams.{one, switchNow, blockedNow, blockedOf, TotalsOfRuns}
@@ -54,6 +57,21 @@ spent-blocked (job x) t i task r l =
     job-blocked (x <? 254) (i =? x) (i <? x) (r .job .pending) (advanced t task r) r
     (lt-ltb x 254 (omega (arith, l x refl))) (λ u. let same = eqb-true i x u in le-ltb i x (omega arith)) (advanced-blocked t task r)
 
+-- rule 7 counts a switch where a job runs that is another than the one that ran last
+switch-or-not : (b : Bool) (n : ℕ) → (if b then n else n + 1) ≡ n + one (not b)
+switch-or-not true n = sym (add-zero n)
+switch-or-not false n = refl
+
+counted-switch : (x : Runner) (records : List TaskRecord) (last : LastJob) (n : ℕ) → Ranked x
+    → (if sameJob (ranLast x records last) last then n else n + 1)
+    ≡ n + one (runnerByte x <? 254 && not (sameJob (jobOf records (runnerByte x)) last))
+unfolding ranLast runnerByte
+counted-switch (job i) records last n l =
+    switch-or-not (sameJob (jobOf records i) last) n
+    ∙ ap (λ (b : Bool). n + one (b && not (sameJob (jobOf records i) last))) (sym (lt-ltb i 254 (omega (arith, l i refl))))
+counted-switch stuck records last n l = rw (job-same last) (sym (add-zero n))
+counted-switch idle records last n l = rw (job-same last) (sym (add-zero n))
+
 module _ (sheet : Sheet) (st : State) where
   releases-blocked : (i : ℕ) → i < 16 → blocked (recordAt (afterReleases sheet st) i) ≡ blockedOf st i
   unfolding afterReleases recordAt
@@ -70,13 +88,11 @@ module _ (sheet : Sheet) (st : State) where
       ∙ spent-blocked (runner sheet rs) (st .t) i (taskAt sheet i) (recordAt rs i) (runner-below sheet rs)
       ∙ ap (λ (n : ℕ). n + one (blockedNow sheet st (runnerByte (runner sheet rs)) i)) (releases-blocked i l)
 
-  pub tick-switches : tick sheet st .switches ≡ st .switches + one (switchNow st (runnerByte (runnerOf sheet st)))
+  pub tick-switches : tick sheet st .switches ≡ st .switches + one (switchNow sheet st (runnerByte (runnerOf sheet st)))
   unfolding tick runnerOf closed
-  tick-switches = go (runnerByte (runner sheet (afterReleases sheet st)) =? st .last)
-    where
-      go : (b : Bool) → (if b then st .switches else st .switches + 1) ≡ st .switches + one (not b)
-      go true = sym (add-zero (st .switches))
-      go false = refl
+  tick-switches =
+      let rs = afterReleases sheet st in
+      counted-switch (runner sheet rs) rs (st .last) (st .switches) (runner-below sheet rs)
 
 -- and so in a run
 blank-at : (n i : ℕ) → getD (replicate n blank) i blank ≡ blank
@@ -93,12 +109,12 @@ blocked-total (suc h) sheet i l =
     ∙ ap (λ (n : ℕ). n + one (blockedNow sheet (after h sheet start) (runnerByte (runnerOf sheet (after h sheet start))) i)) (blocked-total h sheet i l)
 
 switches-total : (h : ℕ) (sheet : Sheet)
-    → after h sheet start .switches ≡ total h λ t. one (switchNow (after t sheet start) (runnerByte (runnerOf sheet (after t sheet start))))
+    → after h sheet start .switches ≡ total h λ t. one (switchNow sheet (after t sheet start) (runnerByte (runnerOf sheet (after t sheet start))))
 unfolding after total
 switches-total zero sheet = refl
 switches-total (suc h) sheet =
     tick-switches sheet (after h sheet start)
-    ∙ ap (λ (n : ℕ). n + one (switchNow (after h sheet start) (runnerByte (runnerOf sheet (after h sheet start))))) (switches-total h sheet)
+    ∙ ap (λ (n : ℕ). n + one (switchNow sheet (after h sheet start) (runnerByte (runnerOf sheet (after h sheet start))))) (switches-total h sheet)
 
 pub totalsOfRuns : TotalsOfRuns
 totalsOfRuns h sheet = (switches-total h sheet, blocked-total h sheet)

@@ -4,4 +4,5 @@ pub mod Demand3
 pub mod NoFreedom
 pub mod Runs
 pub mod Shams
+pub mod Switches
 pub mod Needed

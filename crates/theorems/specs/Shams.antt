@@ -4,12 +4,12 @@ use Prim.Native.Nat.{ℕ, suc, _+_, _<_}
 use mathlib.Core.Path.{_≡_}
 use mathlib.Core.List.{List}
 use mathlib.Core.Bool.{Bool, not, _&&_}
-use Rattle.rules.specs.Words.{if_then_else_, _<?_, _=?_, total}
+use Rattle.rules.specs.Words.{if_then_else_, _<?_, total}
 use Rattle.rules.specs.Sheet.{Sheet}
-use Rattle.rules.specs.Fields.{start}
+use Rattle.rules.specs.Fields.{sameJob, start}
 use Rattle.rules.specs.Record.{recordAt}
 use Rattle.rules.specs.Choice.{runnerByte}
-use Rattle.rules.specs.Tick.{afterReleases, runnerOf}
+use Rattle.rules.specs.Tick.{afterReleases, jobOf, runnerOf}
 use Rattle.rules.specs.Run.{after}
 use Rattle.rules.specs.Answers.{ticked, ran}
 use Rattle.rules.specs.Cases.{A}
@@ -73,16 +73,16 @@ NotAllAtOnce = (f : Function tickCall) → Meets tickCall f
 abbrev pub one : Bool → ℕ
 one test = if test then 1 else 0
 
--- 7. A switch is counted when the runner differs from the last runner.
-abbrev pub switchNow : State → (runner : ℕ) → Bool
-switchNow st runner = not (runner =? st .last)
+-- 7. A switch is counted when a job runs and it is another job than the one that ran last. (Runners 254 and 255 are no jobs.)
+abbrev pub switchNow : Sheet → State → (runner : ℕ) → Bool
+switchNow sheet st runner = runner <? 254 && not (sameJob (jobOf (afterReleases sheet st) runner) (st .last))
 
 abbrev pub SwitchesFixed : Type 0
 SwitchesFixed = (f : Function tickCall) → Meets tickCall f
-    → (bytes : List ℕ) (st : State) → NotRefused (f (bytes, st) .told .refusal)
-    → f (bytes, st) .state .switches ≡ st .switches + one (switchNow st (f (bytes, st) .told .runner))
+    → (bytes : List ℕ) (sheet : Sheet) (st : State) → Accepted bytes sheet → NotRefused (f (bytes, st) .told .refusal)
+    → f (bytes, st) .state .switches ≡ st .switches + one (switchNow sheet st (f (bytes, st) .told .runner))
 
--- 6. Each pending job of smaller rank than a running job is blocked for this tick. (Runners 254 and 255 are no jobs.)
+-- 6. Each pending job of smaller rank than a running job is blocked for this tick.
 abbrev pub blockedNow : Sheet → State → (runner i : ℕ) → Bool
 blockedNow sheet st runner i = runner <? 254 && i <? runner && recordAt (afterReleases sheet st) i .job .pending
 
@@ -95,10 +95,10 @@ BlockedFixed = (f : Function tickCall) → Meets tickCall f
     → (i : ℕ) → i < 16
     → blockedOf (f (bytes, st) .state) i ≡ blockedOf st i + one (blockedNow sheet st (f (bytes, st) .told .runner) i)
 
--- So the totals of a run are counts of its ticks: of those whose runner differs from the one before, and of those in which
--- the task is blocked.
+-- So the totals of a run are counts of its ticks: of those in which another job runs than the one that ran last, and of those
+-- in which the task is blocked.
 abbrev pub TotalsOfRuns : Type 0
 TotalsOfRuns = (h : ℕ) (sheet : Sheet)
-    → (after h sheet start .switches ≡ total h λ t. one (switchNow (after t sheet start) (runnerByte (runnerOf sheet (after t sheet start)))))
+    → (after h sheet start .switches ≡ total h λ t. one (switchNow sheet (after t sheet start) (runnerByte (runnerOf sheet (after t sheet start)))))
     × ((i : ℕ) → i < 16
     → blockedOf (after h sheet start) i ≡ total h λ t. one (blockedNow sheet (after t sheet start) (runnerByte (runnerOf sheet (after t sheet start))) i))

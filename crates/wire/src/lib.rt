@@ -6,6 +6,7 @@ use libc::STDOUT_FILENO;
 use rules::By;
 use rules::Counts;
 use rules::Job;
+use rules::LastJob;
 use rules::Laxity;
 use rules::Refusal;
 use rules::State;
@@ -66,18 +67,26 @@ fn record_at(s: &[u8], at: usize) -> TaskRecord
     }
 }
 
+fn last_at(s: &[u8], at: usize) -> LastJob
+    requires { ⌜ at < 90000 ⌝ }
+{
+    let rank = byte_at(s, at);
+    let release = word_at(s, at + 1);
+    record::last_job(rank, release)
+}
+
 // The state that the bytes from a place on stand for.
 pub fn state_at(s: &[u8], at: usize) -> State
     requires { ⌜ at < 70000 ⌝ }
 {
     let t = word_at(s, at);
     let switches = word_at(s, at + 2);
-    let last = byte_at(s, at + 4);
-    let first = record_at(s, at + 5);
+    let last = last_at(s, at + 4);
+    let first = record_at(s, at + 7);
     let mut tasks = [first; 16];
     let mut i: usize = 1;
     while i < 16 {
-        let r = record_at(s, at + 5 + 18 * i);
+        let r = record_at(s, at + 7 + 18 * i);
         tasks[i] = r;
         i += 1;
     }
@@ -144,10 +153,15 @@ fn print_counts(c: Counts) {
     print(b" worst ", c.worst as u64);
 }
 
+fn print_last(j: LastJob) {
+    print(b" last ", j.rank as u64);
+    print(b" ", j.release as u64);
+}
+
 pub fn print_state(st: State) {
     print(b"t ", st.t as u64);
     print(b" switches ", st.switches as u64);
-    print(b" last ", st.last as u64);
+    print_last(st.last);
     end_line();
     let mut i = 0;
     while i < 16 {

@@ -1,8 +1,11 @@
--- The same runner again is no switch, another is one more.
+-- The same job again is no switch, another is one more.
 use borrow.Author.Needs.{needs}
 use Rattle.effect.proofs.Laws.{switch-not, switch-more}
 use Rattle.effect.proofs.switches_after.Statement.{statement}
 use Rattle.effect.proofs.switches_after.Tie as tie
+
+same-job-requires : tie.Need-same-job-requires
+same-job-requires c κs = search needs
 
 returns : tie.Need-returns
 returns c = search switch-not
@@ -14,4 +17,4 @@ returns-2 : tie.Need-returns-2
 returns-2 c = search switch-more
 
 pub switches-after-spec : {M : Type 1} → statement M
-switches-after-spec = tie.close (tie.spec returns add-result returns-2)
+switches-after-spec = tie.close (tie.spec same-job-requires returns add-result returns-2)

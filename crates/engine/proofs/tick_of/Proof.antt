@@ -2,6 +2,7 @@
 use mathlib.Core.Path.{ap}
 use native.Mathlib.Omega.{arith}
 use denote.Ref.{now}
+use borrow.Author.Needs.{needs}
 use Rattle.rules.specs.declared.State.{State}
 use Rattle.table.specs.Table.{sheetOf}
 use Rattle.engine.proofs.Ticks.{room, room-after, switches-room, choosable, byte-of, tick-parts}
@@ -20,10 +21,13 @@ runner-of-requires c κs =
     let sheet = sheetOf (now (b .args .s)) (b .args .table) in
     (b .pre .0, (b .pre .1 .0, choosable (now (b .args .s)) sheet (b .pre .0 .reads) (b .args .st) (b .pre .1 .1 .0) (b .pre .1 .1 .1) (c .after-releases .result) (c .after-releases .ensures)))
 
+ran-last-requires : tie.Need-ran-last-requires
+ran-last-requires c κs = search needs
+
 after-runner-requires : tie.Need-after-runner-requires
 after-runner-requires c κs =
-    let b = c .before .before .before in
-    let a = c .before .after-releases in
+    let b = c .before .before .before .before in
+    let a = c .before .before .after-releases in
     let sheet = sheetOf (now (b .args .s)) (b .args .table) in (
       b .pre .0,
       (
@@ -34,8 +38,8 @@ after-runner-requires c κs =
 
 closed-requires : tie.Need-closed-requires
 closed-requires c κs =
-    let b = c .before .before .before .before in
-    let a = c .before .before .after-releases in
+    let b = c .before .before .before .before .before in
+    let a = c .before .before .before .after-releases in
     let sheet = sheetOf (now (b .args .s)) (b .args .table) in (
       omega (arith, b .pre .1 .1 .1, ap (λ (x : State). x .t) (a .ensures), ap (λ (x : State). x .t) (c .after-runner .ensures)),
       omega (arith, switches-room (now (b .args .s)) sheet (b .pre .0 .reads) (b .args .st) (b .pre .1 .1 .0) (b .pre .1 .1 .1), ap (λ (x : State). x .switches) (a .ensures), ap (λ (x : State). x .switches) (c .after-runner .ensures)),
@@ -43,13 +47,14 @@ closed-requires c κs =
 
 returns : tie.Need-returns
 returns c =
-    let b = c .before .before .before .before .before in
+    let b = c .before .before .before .before .before .before in
     let sheet = sheetOf (now (b .args .s)) (b .args .table) in
-    let a = c .before .before .before .after-releases in
-    let x = c .before .before .runner-of in (
+    let a = c .before .before .before .before .after-releases in
+    let x = c .before .before .before .runner-of in
+    let last = c .before .before .ran-last in (
       byte-of sheet (b .args .st) (a .result) (x .result) (a .ensures) (x .ensures),
-      tick-parts sheet (b .args .st) (a .result) (c .before .after-runner .result) (c .closed .result) (x .result)
-          (a .ensures) (x .ensures) (c .before .after-runner .ensures) (c .closed .ensures),
+      tick-parts sheet (b .args .st) (a .result) (c .before .after-runner .result) (c .closed .result) (x .result) (last .result)
+          (a .ensures) (x .ensures) (last .ensures) (c .before .after-runner .ensures) (c .closed .ensures),
     )
 
 pub tick-of-spec : {M : Type 1} → statement M
@@ -58,6 +63,7 @@ tick-of-spec =
     (tie.spec
     after-releases-requires
     runner-of-requires
+    ran-last-requires
     after-runner-requires
     closed-requires
     returns)

@@ -1,6 +1,6 @@
 -- The first test that fails makes the state impossible; where all before it hold, the last one decides.
 use native.Mathlib.Omega.{arith}
-use Rattle.possible.proofs.Fits.{late, many-switches, runner-off, records-off, else-single}
+use Rattle.possible.proofs.Fits.{late, many-switches, last-off, records-off, else-single}
 use borrow.Author.Needs.{needs}
 use Rattle.possible.proofs.possible_state.Statement.{statement}
 use Rattle.possible.proofs.possible_state.Tie as tie
@@ -11,11 +11,11 @@ returns c = late _ _ _ (omega arith)
 returns-2 : tie.Need-returns-2
 returns-2 c = search many-switches
 
-runner-fits-requires : tie.Need-runner-fits-requires
-runner-fits-requires c κs = search needs
+last-fits-requires : tie.Need-last-fits-requires
+last-fits-requires c κs = search needs
 
 returns-3 : tie.Need-returns-3
-returns-3 c = search runner-off
+returns-3 c = search last-off
 
 records-fit-requires : tie.Need-records-fit-requires
 records-fit-requires c κs = search needs
@@ -35,7 +35,7 @@ possible-state-spec =
     (tie.spec
     returns
     returns-2
-    runner-fits-requires
+    last-fits-requires
     returns-3
     records-fit-requires
     returns-4

@@ -28,14 +28,8 @@ cast-print-2 c = search needs
 print-requires-2 : tie.Need-print-requires-2 Inv-loop μ-loop
 print-requires-2 c κs = search needs
 
-slice-aggregate-print-3 : tie.Need-slice-aggregate-print-3 Inv-loop μ-loop
-slice-aggregate-print-3 c = search needs
-
-cast-print-3 : tie.Need-cast-print-3 Inv-loop μ-loop
-cast-print-3 c = search needs
-
-print-requires-3 : tie.Need-print-requires-3 Inv-loop μ-loop
-print-requires-3 c κs = search needs
+print-last-requires : tie.Need-print-last-requires Inv-loop μ-loop
+print-last-requires c κs = search needs
 
 end-line-requires : tie.Need-end-line-requires Inv-loop μ-loop
 end-line-requires c κs = search needs
@@ -49,11 +43,11 @@ mul-r c = search needs
 element-copy-out-r : tie.Need-element-copy-out-r Inv-loop μ-loop
 element-copy-out-r c = search needs
 
-slice-aggregate-print-4 : tie.Need-slice-aggregate-print-4 Inv-loop μ-loop
-slice-aggregate-print-4 c = search needs
+slice-aggregate-print-3 : tie.Need-slice-aggregate-print-3 Inv-loop μ-loop
+slice-aggregate-print-3 c = search needs
 
-print-requires-4 : tie.Need-print-requires-4 Inv-loop μ-loop
-print-requires-4 c κs = search needs
+print-requires-3 : tie.Need-print-requires-3 Inv-loop μ-loop
+print-requires-3 c κs = search needs
 
 print-job-requires : tie.Need-print-job-requires Inv-loop μ-loop
 print-job-requires c κs = search needs
@@ -88,15 +82,13 @@ print-state-spec =
     slice-aggregate-print-2
     cast-print-2
     print-requires-2
-    slice-aggregate-print-3
-    cast-print-3
-    print-requires-3
+    print-last-requires
     end-line-requires
     loop-holds
     mul-r
     element-copy-out-r
-    slice-aggregate-print-4
-    print-requires-4
+    slice-aggregate-print-3
+    print-requires-3
     print-job-requires
     print-counts-requires
     end-line-requires-2

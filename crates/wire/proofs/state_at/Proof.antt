@@ -21,11 +21,11 @@ add-word-at c = search needs
 word-at-requires-2 : tie.Need-word-at-requires-2 Inv-loop μ-loop
 word-at-requires-2 c κs = search needs
 
-add-byte-at : tie.Need-add-byte-at Inv-loop μ-loop
-add-byte-at c = search needs
+add-last-at : tie.Need-add-last-at Inv-loop μ-loop
+add-last-at c = search needs
 
-byte-at-requires : tie.Need-byte-at-requires Inv-loop μ-loop
-byte-at-requires c κs = search needs
+last-at-requires : tie.Need-last-at-requires Inv-loop μ-loop
+last-at-requires c κs = search needs
 
 add-record-at : tie.Need-add-record-at Inv-loop μ-loop
 add-record-at c = search needs
@@ -75,8 +75,8 @@ state-at-spec =
     word-at-requires
     add-word-at
     word-at-requires-2
-    add-byte-at
-    byte-at-requires
+    add-last-at
+    last-at-requires
     add-record-at
     record-at-requires
     loop-holds
