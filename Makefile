@@ -28,9 +28,10 @@ compare:
 	@bash tests/proving lts one_tick calls
 	@SEED=$(SEED) COUNT=$(COUNT) bash tests/compare
 
-# Speed beside the second simulator, in one run.
+# Speed beside the second simulator, in one run; on another processor than x86-64, of programs built for that one.
 bench:
 	@bash tests/processor
 	@bash tests/proving lts repeat
 	@cd workbench && cargo build --release --quiet --offline
-	@workbench/target/release/bench --ours target/bin/repeat --lts target/bin/lts
+	@programs=$$(bash tests/native lts repeat) && \
+	    workbench/target/release/bench --ours $$programs/repeat --lts $$programs/lts
