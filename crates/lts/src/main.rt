@@ -5,7 +5,8 @@ ghost use Prim.Native.Nat.{_≤_};
 ghost use mathlib.Core.Path.{_≡_};
 ghost use lib.ListN.{length};
 ghost use Rattle.rules.specs.Reading.{word};
-ghost use Rattle.text.specs.Buffer.{Put, reportRoom};
+ghost use Rattle.words.specs.Buffer.{Put};
+ghost use Rattle.text.specs.Buffer.{reportRoom};
 ghost use Rattle.text.specs.Text.{printed, printedRun};
 
 fn horizon(input: &[u8]) -> u16

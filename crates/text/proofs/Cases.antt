@@ -2,7 +2,8 @@
 use mathlib.Core.Path.{refl}
 use mathlib.Core.List.{flatMap}
 use Rattle.rules.proofs.Open.{rules}
-use Rattle.text.specs.Text.{digits, decimal, numbered, headLine, jobs, times, signedDecimal, analysis, givenBy, taskLine, taskLines, tickWord, traceLine, report, refusalLine, printedRun, printed}
+use Rattle.words.specs.Words.{digits, decimal, numbered, signedDecimal, givenBy, tickWord}
+use Rattle.text.specs.Text.{headLine, jobs, times, analysis, taskLine, taskLines, traceLine, report, refusalLine, printedRun, printed}
 use Rattle.text.specs.Laws.{PrintedA, PrintedF, PrintedB, PrintedNothing, PrintedCut}
 
 unfoldable form : Unit {0}

@@ -1,4 +1,3 @@
-pub mod Put
-pub mod Decimal
+pub mod Lines
 pub mod Printed
 pub mod Cases

@@ -25,7 +25,7 @@ use Rattle.rules.proofs.Laws.{below, length-row, row-at}
 use Rattle.rules.proofs.Reading.{both-read, passed, sheet-few}
 use Rattle.text.specs.Buffer.{boundAt, laxityAt}
 use Rattle.text.specs.Text.{headLine, traceLine, taskLine, taskLines, report, refusalLine, printedRun, printed}
-use Rattle.text.proofs.Put.{flatMap-more}
+use Rattle.text.proofs.Lines.{flatMap-more}
 use Rattle.rules.specs.Laws.{Numbered}
 use Rattle.rules.proofs.Numbers.{refusalsGiven}
 

@@ -1,26 +1,10 @@
 -- WHAT FOLLOWS: laws that make the printed form trustworthy. Each is proved in proofs/.
-use Prim.Native.Nat.{ℕ, _+_, _-_, _*_, _≤_}
-use Prim.Native.Char.{code}
 use mathlib.Core.Path.{_≡_}
-use mathlib.Core.List.{List, [], _∷_, _++_}
-use lib.ListN.{getD, take}
-use Rattle.rules.specs.Laws.{All}
+use mathlib.Core.List.{[], _∷_, _++_}
+use lib.ListN.{take}
 use Rattle.rules.specs.Cases.{A, B, F}
-use Rattle.text.specs.Text.{ascii, decimal, printed}
-
--- The number that digits give, read from the left, behind one that was read before.
-unfoldable pub value : (before : ℕ) → List ℕ → ℕ
-value before [] = before
-value before (d ∷ ds) = value (before * 10 + (d - code "0")) ds
-
--- A number in decimal: digits that read back give it, with no needless zero in front.
-pub record InDecimal (n : ℕ) (text : List ℕ) : Type 0 where
-  pub digits : All (λ d. (code "0" ≤ d) × (d ≤ code "9")) text
-  pub readsBack : value 0 text ≡ n
-  pub leading : 1 ≤ n → code "1" ≤ getD text 0 0
-
-abbrev pub DecimalIsDecimal : Type 0
-DecimalIsDecimal = (n : ℕ) → InDecimal n (decimal n)
+use Rattle.words.specs.Words.{ascii}
+use Rattle.text.specs.Text.{printed}
 
 -- The numbers of document 01: A with horizon 10, and F, which is A with horizon 0.
 abbrev pub PrintedA : Type 0

@@ -1,10 +1,8 @@
 -- THE PRINTED FORM: what the printing program writes for the bytes that it reads.
-use Prim.Native.Nat.{ℕ, zero, suc, _+_, _/_, _%_}
-use Prim.Native.Char.{code}
-use Prim.Native.String.{String, [] as none, _∷_ as _then_}
-use mathlib.Core.List.{List, [], _∷_, _++_, flatMap}
+use Prim.Native.Nat.{ℕ}
+use mathlib.Core.List.{List, _++_, flatMap}
 use lib.ListN.{length, take, drop, replicate}
-use Rattle.rules.specs.Words.{if_then_else_, _<?_, _=?_, row}
+use Rattle.rules.specs.Words.{if_then_else_, _<?_, row}
 use Rattle.rules.specs.Reading.{refusal, word}
 use Rattle.rules.specs.Fields.{start}
 use Rattle.rules.specs.Record.{recordAt}
@@ -13,35 +11,9 @@ use Rattle.rules.specs.Answers.{why, made, boundOf, laxityOf, readRun}
 use Rattle.rules.specs.declared.Counts.{Counts}
 use Rattle.rules.specs.declared.State.{State}
 use Rattle.rules.specs.declared.Refusal.{Refusal}
-use Rattle.rules.specs.declared.By.{By}
 use Rattle.rules.specs.declared.Bound.{Bound}
 use Rattle.rules.specs.declared.Laxity.{Laxity}
-
--- A quoted text as its bytes.
-abbrev pub ascii : String → List ℕ
-ascii none = []
-ascii (x then rest) = code x ∷ ascii rest
-
--- All numbers are decimal: the digits of a number, at most so many, the last of them its remainder by ten.
-abbrev pub digit : ℕ → ℕ
-digit n = code "0" + n % 10
-
-unfoldable pub digits : (most : ℕ) → ℕ → List ℕ
-digits zero n = []
-digits (suc most) n =
-    let before = digits most (n / 10) in
-    (if n <? 10 then [] else before) ++ (digit n ∷ [])
-
--- A number n has at most n + 1 of them.
-unfoldable pub decimal : ℕ → List ℕ
-decimal n = digits (suc n) n
-
--- A word and the number behind it.
-unfoldable pub numbered : (name : List ℕ) (n : ℕ) → List ℕ
-numbered name n = name ++ decimal n
-
-abbrev pub field : (name : String) (n : ℕ) → List ℕ
-field name n = numbered (ascii name) n
+use Rattle.words.specs.Words.{ascii, decimal, field, signedDecimal, givenBy, tickWord}
 
 unfoldable pub headLine : (ticks switches : ℕ) → List ℕ
 headLine ticks switches = field "ticks " ticks ++ field " switches " switches ++ ascii "\n"
@@ -54,18 +26,9 @@ jobs c = field " releases " (c .releases) ++ field " done " (c .completions) ++ 
 unfoldable pub times : Counts → List ℕ
 times c = field " ran " (c .ran) ++ field " blocked " (c .blocked) ++ field " worst " (c .worst)
 
--- (a laxity may be negative)
-unfoldable pub signedDecimal : Laxity → List ℕ
-signedDecimal x = (if x .below then ascii "-" else []) ++ decimal (x .size)
-
--- its bound and its laxity;
+-- its bound and its laxity, and what gives the bound.
 unfoldable pub analysis : Bound → Laxity → List ℕ
 analysis bound laxity = field " bound " (bound .ticks) ++ ascii " laxity " ++ signedDecimal laxity
-
--- what gives the bound: a section, by rank and lock step, or nothing.
-unfoldable pub givenBy : By → List ℕ
-givenBy (By.Section rank step) = field " by " rank ++ field "/" step
-givenBy By.Nothing = ascii " by -"
 
 -- One line per rank, first field the rank.
 unfoldable pub taskLine : (i : ℕ) → Counts → Bound → Laxity → List ℕ
@@ -74,10 +37,7 @@ taskLine i c bound laxity = decimal i ++ jobs c ++ times c ++ analysis bound lax
 unfoldable pub taskLines : (n : ℕ) → State → (bounds : ℕ → Bound) (laxities : ℕ → Laxity) → List ℕ
 taskLines n st bounds laxities = flatMap (λ i. taskLine i (recordAt (st .tasks) i .counts) (bounds i) (laxities i)) (row n λ i. i)
 
--- The trace line has one word for each tick: the runner's rank, "-" for idle, "!" for 254.
-unfoldable pub tickWord : (x : ℕ) → List ℕ
-tickWord x = ascii " " ++ (if x =? 255 then ascii "-" else if x =? 254 then ascii "!" else decimal x)
-
+-- The trace line has one word for each tick.
 unfoldable pub traceLine : (runners : List ℕ) → List ℕ
 traceLine runners = ascii "trace" ++ flatMap tickWord runners ++ ascii "\n"
 

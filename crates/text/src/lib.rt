@@ -1,70 +1,24 @@
-// What the printing program prints, put into a buffer that the caller lends. Each function puts a text at a cursor and
-// answers the cursor behind it; what the texts are stands in specs/Text.antt, and the room that they ask for in
+// The lines of what the printing program prints, put into a buffer that the caller lends. Each function puts a text at a
+// cursor and answers the cursor behind it; what the texts are stands in specs/Text.antt, and the room that they ask for in
 // specs/Buffer.antt.
 use rules::Bound;
-use rules::By;
 use rules::Counts;
 use rules::Laxity;
 use rules::Refusal;
 use rules::State;
-ghost use Prim.Native.Nat.{_+_, _*_, _≤_, _<_};
+use words::put_byte;
+use words::put_field;
+use words::put_given_by;
+use words::put_laxity;
+use words::put_number;
+use words::put_runner;
+use words::put_text;
+ghost use Prim.Native.Nat.{_+_, _*_, _≤_};
 ghost use mathlib.Core.Path.{_≡_};
-ghost use mathlib.Core.List.{[], _∷_};
 ghost use lib.ListN.{length, take};
-ghost use Rattle.text.specs.Buffer.{Put, boundAt, laxityAt, wordRoom, numberRoom, fieldRoom, headLineRoom, jobsRoom, timesRoom, laxityRoom, analysisRoom, givenByRoom, taskLineRoom, tickRoom, traceLineRoom, reportRoom, refusalLineRoom};
-ghost use Rattle.text.specs.Text.{digit as Text·digit};
-ghost use Rattle.text.specs.Text.{decimal, numbered, headLine, jobs, times, signedDecimal, analysis, givenBy, taskLine, taskLines, traceLine, report, refusalLine, tickWord};
-
-fn put_byte(out: &mut [u8], at: usize, b: u8) -> usize
-    requires { ⌜ at < length (now out) ⌝ }
-    ensures { λ r. ⌜ Put (now (out .entry)) at (b ∷ []) (now (out .exit)) r ⌝ }
-{
-    out[at] = b;
-    at + 1
-}
-
-fn put_text(out: &mut [u8], at: usize, text: &[u8]) -> usize
-    requires { ⌜ at + length (now text) ≤ length (now out) ⌝ }
-    ensures { λ r. ⌜ Put (now (out .entry)) at (now (text .entry)) (now (out .exit)) r ⌝ }
-{
-    let mut next = at;
-    let mut i = 0;
-    while i < text.len() {
-        next = put_byte(out, next, text[i]);
-        i += 1;
-    }
-    next
-}
-
-fn digit(n: u32) -> u8
-    ensures { λ r. ⌜ r ≡ Text·digit n ⌝ }
-{
-    b'0' + (n % 10) as u8
-}
-
-// A number of 32 bits has at most ten digits.
-fn put_number(out: &mut [u8], at: usize, n: u32) -> usize
-    requires { ⌜ at + numberRoom ≤ length (now out) ⌝ }
-    ensures { λ r. ⌜ Put (now (out .entry)) at (decimal n) (now (out .exit)) r ⌝ }
-    ensures { λ r. ⌜ r ≤ at + numberRoom ⌝ }
-{
-    if n < 10 {
-        return put_byte(out, at, digit(n));
-    }
-    let next = put_number(out, at, n / 10);
-    put_byte(out, next, digit(n))
-}
-
-// A word and the number behind it.
-fn put_field(out: &mut [u8], at: usize, name: &[u8], n: u16) -> usize
-    requires { ⌜ length (now name) ≤ wordRoom ⌝ }
-    requires { ⌜ at + fieldRoom ≤ length (now out) ⌝ }
-    ensures { λ r. ⌜ Put (now (out .entry)) at (numbered (now (name .entry)) n) (now (out .exit)) r ⌝ }
-    ensures { λ r. ⌜ r ≤ at + fieldRoom ⌝ }
-{
-    let next = put_text(out, at, name);
-    put_number(out, next, n as u32)
-}
+ghost use Rattle.words.specs.Buffer.{Put};
+ghost use Rattle.text.specs.Buffer.{boundAt, laxityAt, headLineRoom, jobsRoom, timesRoom, analysisRoom, taskLineRoom, traceLineRoom, reportRoom, refusalLineRoom};
+ghost use Rattle.text.specs.Text.{headLine, jobs, times, analysis, taskLine, taskLines, traceLine, report, refusalLine};
 
 fn put_head_line(out: &mut [u8], at: usize, ticks: u16, switches: u16) -> usize
     requires { ⌜ at + headLineRoom ≤ length (now out) ⌝ }
@@ -96,18 +50,6 @@ fn put_times(out: &mut [u8], at: usize, c: Counts) -> usize
     put_field(out, next, b" worst ", c.worst)
 }
 
-fn put_laxity(out: &mut [u8], at: usize, x: Laxity) -> usize
-    requires { ⌜ at + laxityRoom ≤ length (now out) ⌝ }
-    ensures { λ r. ⌜ Put (now (out .entry)) at (signedDecimal x) (now (out .exit)) r ⌝ }
-    ensures { λ r. ⌜ r ≤ at + laxityRoom ⌝ }
-{
-    if x.below {
-        let next = put_byte(out, at, b'-');
-        return put_number(out, next, x.size);
-    }
-    put_number(out, at, x.size)
-}
-
 fn put_analysis(out: &mut [u8], at: usize, bound: Bound, laxity: Laxity) -> usize
     requires { ⌜ at + analysisRoom ≤ length (now out) ⌝ }
     ensures { λ r. ⌜ Put (now (out .entry)) at (analysis bound laxity) (now (out .exit)) r ⌝ }
@@ -116,19 +58,6 @@ fn put_analysis(out: &mut [u8], at: usize, bound: Bound, laxity: Laxity) -> usiz
     let next = put_field(out, at, b" bound ", bound.ticks);
     let next = put_text(out, next, b" laxity ");
     put_laxity(out, next, laxity)
-}
-
-// What gives a bound: a section, by rank and lock step, or nothing.
-fn put_given_by(out: &mut [u8], at: usize, by: By) -> usize
-    requires { ⌜ at + givenByRoom ≤ length (now out) ⌝ }
-    ensures { λ r. ⌜ Put (now (out .entry)) at (givenBy by) (now (out .exit)) r ⌝ }
-    ensures { λ r. ⌜ r ≤ at + givenByRoom ⌝ }
-{
-    let By::Section(rank, step) = by else {
-        return put_text(out, at, b" by -");
-    };
-    let next = put_field(out, at, b" by ", rank as u16);
-    put_field(out, next, b"/", step as u16)
 }
 
 fn put_task_line(
@@ -177,22 +106,6 @@ fn put_task_lines(
         i += 1;
     }
     next
-}
-
-// One word of the trace line, with the space before it.
-fn put_runner(out: &mut [u8], at: usize, x: u8) -> usize
-    requires { ⌜ at + (1 + numberRoom) ≤ length (now out) ⌝ }
-    ensures { λ r. ⌜ Put (now (out .entry)) at (tickWord x) (now (out .exit)) r ⌝ }
-    ensures { λ r. ⌜ r ≤ at + tickRoom ⌝ }
-{
-    let next = put_byte(out, at, b' ');
-    if x == 255 {
-        return put_byte(out, next, b'-');
-    }
-    if x == 254 {
-        return put_byte(out, next, b'!');
-    }
-    put_number(out, next, x as u32)
 }
 
 // The first h bytes of a trace.

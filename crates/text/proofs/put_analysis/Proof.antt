@@ -3,7 +3,7 @@ use mathlib.Core.Path.{refl}
 use borrow.Author.Needs.{needs}
 use native.Mathlib.Omega.{arith}
 use Rattle.text.specs.Text.{analysis}
-use Rattle.text.proofs.Put.{put-more}
+use Rattle.words.proofs.Put.{put-more}
 use Rattle.text.proofs.put_analysis.Statement.{statement}
 use Rattle.text.proofs.put_analysis.Tie as tie
 

@@ -3,7 +3,7 @@ use native.Mathlib.Omega.{arith}
 use mathlib.Core.Path.{refl}
 use borrow.Author.Needs.{needs}
 use Rattle.text.specs.Text.{refusalLine}
-use Rattle.text.proofs.Put.{put-more}
+use Rattle.words.proofs.Put.{put-more}
 use Rattle.text.proofs.put_refusal_line.Statement.{statement}
 use Rattle.text.proofs.put_refusal_line.Tie as tie
 

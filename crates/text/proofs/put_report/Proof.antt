@@ -2,7 +2,7 @@
 use native.Mathlib.Omega.{arith}
 use borrow.Author.Needs.{needs}
 use Rattle.text.specs.Text.{report}
-use Rattle.text.proofs.Put.{put-more}
+use Rattle.words.proofs.Put.{put-more}
 use Rattle.text.proofs.put_report.Statement.{statement}
 use Rattle.text.proofs.put_report.Tie as tie
 

@@ -2,7 +2,7 @@
 use borrow.Author.Needs.{needs}
 use native.Mathlib.Omega.{arith}
 use Rattle.text.specs.Text.{taskLine}
-use Rattle.text.proofs.Put.{put-more}
+use Rattle.words.proofs.Put.{put-more}
 use Rattle.text.proofs.put_task_line.Statement.{statement}
 use Rattle.text.proofs.put_task_line.Tie as tie
 

@@ -5,9 +5,11 @@ use mathlib.Core.List.{flatMap}
 use native.Mathlib.Omega.{arith}
 use Rattle.rules.specs.Words.{row}
 use Rattle.rules.specs.Record.{recordAt}
-use Rattle.text.specs.Buffer.{Put, taskLineRoom, boundAt, laxityAt}
+use Rattle.words.specs.Buffer.{Put}
+use Rattle.text.specs.Buffer.{taskLineRoom, boundAt, laxityAt}
 use Rattle.text.specs.Text.{taskLines}
-use Rattle.text.proofs.Put.{put-none, put-length, lines-more}
+use Rattle.words.proofs.Put.{put-none, put-length}
+use Rattle.text.proofs.Lines.{lines-more}
 use Rattle.text.proofs.put_task_lines.Statement.{statement}
 use Rattle.text.proofs.put_task_lines.Tie as tie
 

@@ -4,9 +4,11 @@ use mathlib.Core.Path.{_≡_, refl, _∙_}
 use mathlib.Core.List.{flatMap}
 use native.Mathlib.Omega.{arith}
 use lib.ListN.{take}
-use Rattle.text.specs.Buffer.{Put, tickRoom}
-use Rattle.text.specs.Text.{tickWord, traceLine}
-use Rattle.text.proofs.Put.{put-none, put-length, put-more, words-more}
+use Rattle.words.specs.Buffer.{Put, tickRoom}
+use Rattle.words.specs.Words.{tickWord}
+use Rattle.text.specs.Text.{traceLine}
+use Rattle.words.proofs.Put.{put-none, put-length, put-more}
+use Rattle.text.proofs.Lines.{words-more}
 use Rattle.text.proofs.put_trace_line.Statement.{statement}
 use Rattle.text.proofs.put_trace_line.Tie as tie
 

@@ -1,10 +1,10 @@
 -- Behind the space 255 is a dash, 254 an exclamation mark, and another byte its number, of three digits at most.
 use borrow.Author.Needs.{needs}
 use native.Mathlib.Omega.{arith}
-use Rattle.text.proofs.Decimal.{decimal-few}
-use Rattle.text.proofs.Put.{tick-idle, tick-stuck, tick-rank}
-use Rattle.text.proofs.put_runner.Statement.{statement}
-use Rattle.text.proofs.put_runner.Tie as tie
+use Rattle.words.proofs.Decimal.{decimal-few}
+use Rattle.words.proofs.Put.{tick-idle, tick-stuck, tick-rank}
+use Rattle.words.proofs.put_runner.Statement.{statement}
+use Rattle.words.proofs.put_runner.Tie as tie
 
 put-byte-requires : tie.Need-put-byte-requires
 put-byte-requires c κs = omega arith

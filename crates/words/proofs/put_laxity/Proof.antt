@@ -1,9 +1,9 @@
 -- A negative laxity has a minus before its size, another the size alone.
 use borrow.Author.Needs.{needs}
 use native.Mathlib.Omega.{arith}
-use Rattle.text.proofs.Put.{laxity-below, laxity-not}
-use Rattle.text.proofs.put_laxity.Statement.{statement}
-use Rattle.text.proofs.put_laxity.Tie as tie
+use Rattle.words.proofs.Put.{laxity-below, laxity-not}
+use Rattle.words.proofs.put_laxity.Statement.{statement}
+use Rattle.words.proofs.put_laxity.Tie as tie
 
 put-byte-requires : tie.Need-put-byte-requires
 put-byte-requires c κs = omega arith

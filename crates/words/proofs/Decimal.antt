@@ -9,8 +9,8 @@ use lib.ListN.{length, getD, length-append}
 use borrow.Author.Tests.{lt-ltb, le-ltb}
 use Rattle.rules.proofs.Laws.{below}
 use Rattle.rules.specs.Laws.{All}
-use Rattle.text.specs.Text.{digit, digits, decimal}
-use Rattle.text.specs.Laws.{value, InDecimal, DecimalIsDecimal}
+use Rattle.words.specs.Words.{digit, digits, decimal}
+use Rattle.words.specs.Laws.{value, InDecimal, DecimalIsDecimal}
 
 -- more room for digits than a number needs gives no more of them
 digits-enough : (j k n : ℕ) → n < j → n < k → digits j n ≡ digits k n

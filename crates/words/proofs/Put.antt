@@ -1,22 +1,18 @@
--- Laws of texts in a buffer: no text, one byte, one text behind another.
+-- Laws of texts in a buffer: no text, one byte, one text behind another, each word.
 use Prim.Native.Nat.{ℕ, _+_, _/_, _≤_, _<_}
 use mathlib.Core.Path.{_≡_, refl, sym, ap, ap₂, _∙_}
-use mathlib.Core.List.{List, [], _∷_, _++_, append-assoc, append-nil, flatMap}
+use mathlib.Core.List.{List, [], _∷_, _++_, append-assoc}
 use mathlib.Core.Bool.{true, false}
 use borrow.Author.Tests.{eq-eqb, ne-eqb}
 use native.Mathlib.Omega.{arith}
 use native.Mathlib.Numerals.{add-one}
 use lib.ListN.{length, take, drop, set, getD, length-append}
 use lib.Seq.{length-take-le, take-at, drop-at, drop-drop, sets-eq, length-sets, take-suc, take-all}
-use Rattle.text.specs.Buffer.{Put, fieldRoom, givenByRoom}
-use Rattle.text.specs.Text.{ascii, digit, decimal, field, signedDecimal, givenBy, taskLine, taskLines, tickWord}
-use Rattle.rules.specs.Words.{row}
-use Rattle.rules.specs.Record.{recordAt}
-use Rattle.rules.specs.declared.State.{State}
+use Rattle.words.specs.Buffer.{Put, fieldRoom, givenByRoom}
+use Rattle.words.specs.Words.{ascii, digit, decimal, field, signedDecimal, givenBy, tickWord}
 use Rattle.rules.specs.declared.By.{By}
-use Rattle.rules.specs.declared.Bound.{Bound}
 use Rattle.rules.specs.declared.Laxity.{Laxity}
-use Rattle.text.proofs.Decimal.{decimal-one, decimal-more}
+use Rattle.words.proofs.Decimal.{decimal-one, decimal-more}
 
 module _ {before : List ℕ} {cursor : ℕ} where
   pub put-none : cursor ≤ length before → Put before cursor [] before cursor
@@ -109,20 +105,3 @@ module _ {before middle after : List ℕ} {cursor between next : ℕ} (x : ℕ) 
   pub tick-rank : (x ≡ 255 → ⊥) → (x ≡ 254 → ⊥) → Put middle between (decimal x) after next → Put before cursor (tickWord x) after next
   unfolding tickWord
   tick-rank i s p = rw (ne-eqb x 255 i, ne-eqb x 254 s) (put-more space p)
-
--- one line more, and one word more
-pub flatMap-more : (f : ℕ → List ℕ) (xs : List ℕ) (x : ℕ) → flatMap f (xs ++ (x ∷ [])) ≡ flatMap f xs ++ f x
-unfolding flatMap
-flatMap-more f [] x = append-nil (f x)
-flatMap-more f (y ∷ xs) x = ap (λ (l : List ℕ). f y ++ l) (flatMap-more f xs x) ∙ sym (append-assoc (f y) (flatMap f xs) (f x))
-
-module _ {before middle after : List ℕ} {cursor between next : ℕ} where
-  pub lines-more : (i : ℕ) (st : State) (bounds : ℕ → Bound) (laxities : ℕ → Laxity) → Put before cursor (taskLines i st bounds laxities) middle between
-      → Put middle between (taskLine i (recordAt (st .tasks) i .counts) (bounds i) (laxities i)) after next
-      → Put before cursor (taskLines (i + 1) st bounds laxities) after next
-  unfolding taskLines row
-  lines-more i st bounds laxities p q = rw (add-one i, flatMap-more _ (row i λ i. i) i) (put-more p q)
-
-  pub words-more : (i : ℕ) (trace : List ℕ) → i < length trace → Put before cursor (flatMap tickWord (take i trace)) middle between
-      → Put middle between (tickWord (getD trace i 0)) after next → Put before cursor (flatMap tickWord (take (i + 1) trace)) after next
-  words-more i trace h p q = rw (add-one i, take-suc trace i 0 h, flatMap-more tickWord (take i trace) (getD trace i 0)) (put-more p q)

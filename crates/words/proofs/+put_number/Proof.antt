@@ -4,15 +4,15 @@ use mathlib.Core.Path.{_∙_}
 use native.Mathlib.Omega.{arith}
 use borrow.Fn.Kinds.{In}
 use borrow.Fn.PlainCycle.{Measures, is, falls, and}
-use Rattle.text.proofs.Decimal.{decimal-few}
-use Rattle.text.proofs.Put.{number-one, number-more}
-use Rattle.text.proofs.put_number.Reads as put-number
-use Rattle.text.proofs.put_number.Kinds as put-number-kinds
-use Rattle.text.proofs.+put_number.Lts-put_number as put-number-lts
-use Rattle.text.proofs.digit.Reads as digit-reads
-use Rattle.text.proofs.put_byte.Reads as put-byte-reads
-use Rattle.text.proofs.+put_number.{statement}
-use Rattle.text.proofs.+put_number.Tie.{close}
+use Rattle.words.proofs.Decimal.{decimal-few}
+use Rattle.words.proofs.Put.{number-one, number-more}
+use Rattle.words.proofs.put_number.Reads as put-number
+use Rattle.words.proofs.put_number.Kinds as put-number-kinds
+use Rattle.words.proofs.+put_number.Lts-put_number as put-number-lts
+use Rattle.words.proofs.digit.Reads as digit-reads
+use Rattle.words.proofs.put_byte.Reads as put-byte-reads
+use Rattle.words.proofs.+put_number.{statement}
+use Rattle.words.proofs.+put_number.Tie.{close}
 
 abbrev μ-put-number : Measures 1 put-number-kinds.ps ℕ
 μ-put-number κs a = a .1 .1 .0

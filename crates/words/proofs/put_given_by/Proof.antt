@@ -2,9 +2,9 @@
 use mathlib.Core.Path.{refl}
 use borrow.Author.Needs.{needs}
 use native.Mathlib.Omega.{arith}
-use Rattle.text.proofs.Put.{given-none, given-section}
-use Rattle.text.proofs.put_given_by.Statement.{statement}
-use Rattle.text.proofs.put_given_by.Tie as tie
+use Rattle.words.proofs.Put.{given-none, given-section}
+use Rattle.words.proofs.put_given_by.Statement.{statement}
+use Rattle.words.proofs.put_given_by.Tie as tie
 
 enum-known-by : tie.Need-enum-known-by
 enum-known-by c = search needs

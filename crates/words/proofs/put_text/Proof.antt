@@ -3,10 +3,10 @@ use Prim.Native.Nat.{_-_, _≤_}
 use native.Mathlib.Omega.{arith}
 use lib.ListN.{length, take}
 use lib.Seq.{length-take-le}
-use Rattle.text.specs.Buffer.{Put}
-use Rattle.text.proofs.Put.{put-none, put-length, put-next, put-whole}
-use Rattle.text.proofs.put_text.Statement.{statement}
-use Rattle.text.proofs.put_text.Tie as tie
+use Rattle.words.specs.Buffer.{Put}
+use Rattle.words.proofs.Put.{put-none, put-length, put-next, put-whole}
+use Rattle.words.proofs.put_text.Statement.{statement}
+use Rattle.words.proofs.put_text.Tie as tie
 
 abbrev Inv-loop : tie.InvT-loop
 Inv-loop out₀ at text next₀ i₀ out next i = (i ≤ length text) × Put out₀ at (take i text) out next

@@ -1,10 +1,10 @@
 -- The word, then the number behind it, in their room.
 use borrow.Author.Needs.{needs}
 use native.Mathlib.Omega.{arith}
-use Rattle.text.specs.Text.{numbered}
-use Rattle.text.proofs.Put.{put-more}
-use Rattle.text.proofs.put_field.Statement.{statement}
-use Rattle.text.proofs.put_field.Tie as tie
+use Rattle.words.specs.Words.{numbered}
+use Rattle.words.proofs.Put.{put-more}
+use Rattle.words.proofs.put_field.Statement.{statement}
+use Rattle.words.proofs.put_field.Tie as tie
 
 put-text-requires : tie.Need-put-text-requires
 put-text-requires c κs = omega arith

@@ -1,8 +1,8 @@
 -- One byte stands at the cursor, and the next is behind it.
 use borrow.Author.Needs.{needs}
-use Rattle.text.proofs.Put.{put-one}
-use Rattle.text.proofs.put_byte.Statement.{statement}
-use Rattle.text.proofs.put_byte.Tie as tie
+use Rattle.words.proofs.Put.{put-one}
+use Rattle.words.proofs.put_byte.Statement.{statement}
+use Rattle.words.proofs.put_byte.Tie as tie
 
 slice-write-out : tie.Need-slice-write-out
 slice-write-out c = search needs
