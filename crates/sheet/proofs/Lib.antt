@@ -1,6 +1,5 @@
 pub mod Tests
 pub mod Heads
-pub mod Nesting
 pub mod Steps
 pub mod Tasks
 pub mod Sheets

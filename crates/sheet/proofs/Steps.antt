@@ -16,13 +16,13 @@ use Rattle.rules.proofs.Reading.{both-read, passed, got, step-passed}
 use Rattle.rules.specs.declared.Refusal.{Refusal}
 use Rattle.table.specs.Table.{stepAt, stepsAt}
 use Rattle.table.specs.declared.Entry.{Entry}
-use Rattle.sheet.specs.Nesting.{opened, nestBehind}
+use Rattle.steps.specs.Nesting.{opened, nestBehind}
 use Rattle.sheet.specs.Reader.{stepIn, stepThere, StepFrom, stepsThere}
 use Rattle.sheet.specs.declared.StepRead.{StepRead}
 use Rattle.sheet.specs.declared.StepRead.the-variants.{Placed, NoStep}
-use Rattle.sheet.specs.declared.Nest.{Nest}
+use Rattle.steps.specs.declared.Nest.{Nest}
 use Rattle.sheet.proofs.Tests.{then-then, byte-first, word-from}
-use Rattle.sheet.proofs.Nesting.{length-opened, misplaced-in, Keeps, keeps-none, keeps-more}
+use Rattle.steps.proofs.Nesting.{length-opened, misplaced-in, Keeps, keeps-none, keeps-more}
 
 -- one step: 11, 12, or placed
 module _ (s : List ℕ) (p m i k : ℕ) (q : Nest) (kind value : ℕ)

@@ -2,13 +2,13 @@
 use Prim.Native.Nat.{ℕ, _+_, _*_, _≤_, _<_}
 use mathlib.Core.Path.{_≡_, refl, ap, ap₂, _∙_}
 use mathlib.Core.List.{List}
-use mathlib.Core.Bool.{Bool, true, false, not}
+use mathlib.Core.Bool.{Bool, true, false}
 use native.Mathlib.Omega.{arith}
 use lib.ListN.{length, drop, length-drop}
 use lib.Seq.{getD-drop}
-use borrow.Author.Tests.{lt-ltb, le-ltb, le-leb, lt-leb, eq-eqb, ne-eqb, not-true, not-false}
-use Rattle.rules.specs.Words.{_<?_, _≤?_, within}
-use Rattle.rules.specs.Reading.{Reading, read, refused, refusal, _>>=_, refuse_of_at_when_, byte, word, known}
+use borrow.Author.Tests.{lt-ltb, le-ltb}
+use Rattle.rules.specs.Words.{_<?_}
+use Rattle.rules.specs.Reading.{Reading, read, refused, refusal, _>>=_, refuse_of_at_when_, byte, word}
 use Rattle.rules.specs.declared.Refusal.{Refusal}
 
 module _ {B : Type 0} (number rank step : ℕ) (test : Bool) (rest : Reading B) where
@@ -32,29 +32,6 @@ pub then-same : {A B : Type 0} (r : Reading A) (f g : A → Reading B) → ((a :
 unfolding _>>=_
 then-same (read a) f g h = h a
 then-same (refused x) f g h = refl
-
--- a range
-pub within-below : (low high x : ℕ) → x < low → false ≡ within low high x
-unfolding within
-within-below low high x l = rw (lt-leb low x l) refl
-
-pub within-above : (low high x : ℕ) → low ≤ x → (x ≤? high) ≡ within low high x
-unfolding within
-within-above low high x l = rw (le-leb low x l) refl
-
--- a step's kind and value
-module _ (m kind value : ℕ) where
-  pub known-run : kind ≡ 1 → (b : Bool) → b ≡ within 1 1000 value → b ≡ known m kind value
-  unfolding known
-  known-run u b e = rw (eq-eqb kind 1 u) e
-
-  pub known-none : (kind ≡ 1 → ⊥) → (b : Bool) → b ≡ within 2 3 kind → not b ≡ true → false ≡ known m kind value
-  unfolding known
-  known-none n b e f = rw (ne-eqb kind 1 n, ← e, not-true b f) refl
-
-  pub known-below : (kind ≡ 1 → ⊥) → (b : Bool) → b ≡ within 2 3 kind → not b ≡ false → (value <? m) ≡ known m kind value
-  unfolding known
-  known-below n b e f = rw (ne-eqb kind 1 n, ← e, not-false b f) refl
 
 -- what was refused with what follows read was refused
 pub was-refused : {A B : Type 0} (r : Reading A) (f : A → B) (x : Refusal) → refused x ≡ (r >>= λ a. read (f a)) → r ≡ refused x

@@ -12,14 +12,14 @@ use Rattle.rules.specs.declared.Refusal.{Refusal}
 use Rattle.table.specs.Table.{taskOf, noEntry, Lies, Tabled}
 use Rattle.table.specs.declared.Entry.{Entry}
 use Rattle.table.specs.declared.Table.{Table}
-use Rattle.sheet.specs.Nesting.{Nests}
+use Rattle.steps.specs.Nesting.{Nests}
 use Rattle.sheet.specs.declared.HeadRead.{HeadRead}
 use Rattle.sheet.specs.declared.HeadRead.the-variants.{Begun, NoHead}
 use Rattle.sheet.specs.declared.TaskRead.{TaskRead}
 use Rattle.sheet.specs.declared.TaskRead.the-variants.{Opened, NoTask}
 use Rattle.sheet.specs.declared.StepRead.{StepRead}
 use Rattle.sheet.specs.declared.StepRead.the-variants.{Placed, NoStep}
-use Rattle.sheet.specs.declared.Nest.{Nest}
+use Rattle.steps.specs.declared.Nest.{Nest}
 use Rattle.sheet.specs.declared.Parsed.{Parsed}
 
 -- The head of the sheet; the tasks stand behind its eight bytes.

@@ -13,8 +13,8 @@ use Rattle.rules.specs.Sheet.{Step, run, lock, unlock, isLock, without, heldOnT
 use Rattle.rules.specs.Reading.{stepOf, misplacedIn, afterLock, misplaced}
 use Rattle.rules.proofs.Laws.{true-false, or-no, or-right}
 use Rattle.rules.proofs.Nesting.{held-snoc, after-snoc, Distinct, without-newest, newest, or-too}
-use Rattle.sheet.specs.Nesting.{newestFirst, opened, Nests, nestBehind}
-use Rattle.sheet.specs.declared.Nest.{Nest}
+use Rattle.steps.specs.Nesting.{newestFirst, opened, Nests, nestBehind}
+use Rattle.steps.specs.declared.Nest.{Nest}
 
 pub length-newest : (d : ℕ) (xs : List ℕ) → length (newestFirst d xs) ≡ d
 unfolding newestFirst

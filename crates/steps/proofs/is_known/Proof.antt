@@ -1,8 +1,8 @@
 -- A run is known by its length; no kind but 1 to 3 is known; a lock or an unlock is known by its semaphore.
 use borrow.Author.Needs.{needs}
-use Rattle.sheet.proofs.Tests.{known-run, known-none, known-below}
-use Rattle.sheet.proofs.is_known.Statement.{statement}
-use Rattle.sheet.proofs.is_known.Tie as tie
+use Rattle.steps.proofs.Tests.{known-run, known-none, known-below}
+use Rattle.steps.proofs.is_known.Statement.{statement}
+use Rattle.steps.proofs.is_known.Tie as tie
 
 within-requires : tie.Need-within-requires
 within-requires c κs = search needs

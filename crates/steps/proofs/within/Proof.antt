@@ -1,7 +1,7 @@
 -- A number below the low end is outside; else the high end decides.
-use Rattle.sheet.proofs.Tests.{within-below, within-above}
-use Rattle.sheet.proofs.within.Statement.{statement}
-use Rattle.sheet.proofs.within.Tie as tie
+use Rattle.steps.proofs.Tests.{within-below, within-above}
+use Rattle.steps.proofs.within.Statement.{statement}
+use Rattle.steps.proofs.within.Tie as tie
 
 returns : tie.Need-returns
 returns c = search within-below

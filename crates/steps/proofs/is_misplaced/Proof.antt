@@ -1,8 +1,8 @@
 -- A run is never misplaced; each other return is one of 12's tests on a lock or on an unlock.
 use borrow.Author.Needs.{needs}
-use Rattle.sheet.proofs.Nesting.{placed-run, fifth-level, already-held, none-open, not-newest, after-lock}
-use Rattle.sheet.proofs.is_misplaced.Statement.{statement}
-use Rattle.sheet.proofs.is_misplaced.Tie as tie
+use Rattle.steps.proofs.Nesting.{placed-run, fifth-level, already-held, none-open, not-newest, after-lock}
+use Rattle.steps.proofs.is_misplaced.Statement.{statement}
+use Rattle.steps.proofs.is_misplaced.Tie as tie
 
 returns : tie.Need-returns
 returns c = search placed-run

@@ -6,7 +6,7 @@ use mathlib.Core.Bool.{true, false}
 use lib.ListN.{length, getD, set}
 use Rattle.rules.specs.Sheet.{Step, run, lock, unlock, held}
 use Rattle.rules.specs.Reading.{afterLock}
-use Rattle.sheet.specs.declared.Nest.{Nest}
+use Rattle.steps.specs.declared.Nest.{Nest}
 
 -- The first d of some numbers, the newest first.
 unfoldable pub newestFirst : (d : ℕ) → List ℕ → List ℕ

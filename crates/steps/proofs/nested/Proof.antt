@@ -1,8 +1,8 @@
 -- A step that is well placed gives the nest behind it: at a lock there is room for one more, at an unlock one is open.
 use borrow.Author.Needs.{needs}
-use Rattle.sheet.proofs.Nesting.{room, one-open, nest-run, nest-lock, nest-unlock}
-use Rattle.sheet.proofs.nested.Statement.{statement}
-use Rattle.sheet.proofs.nested.Tie as tie
+use Rattle.steps.proofs.Nesting.{room, one-open, nest-run, nest-lock, nest-unlock}
+use Rattle.steps.proofs.nested.Statement.{statement}
+use Rattle.steps.proofs.nested.Tie as tie
 
 returns : tie.Need-returns
 returns c = search nest-run

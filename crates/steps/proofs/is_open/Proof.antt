@@ -3,10 +3,10 @@ use Prim.Native.Nat.{_≤_}
 use mathlib.Core.Path.{_≡_, refl}
 use native.Mathlib.Omega.{arith}
 use Rattle.rules.specs.Words.{among}
-use Rattle.sheet.specs.Nesting.{newestFirst, opened}
-use Rattle.sheet.proofs.Nesting.{open-none, open-here, open-more}
-use Rattle.sheet.proofs.is_open.Statement.{statement}
-use Rattle.sheet.proofs.is_open.Tie as tie
+use Rattle.steps.specs.Nesting.{newestFirst, opened}
+use Rattle.steps.proofs.Nesting.{open-none, open-here, open-more}
+use Rattle.steps.proofs.is_open.Statement.{statement}
+use Rattle.steps.proofs.is_open.Tie as tie
 
 abbrev Inv-loop : tie.InvT-loop
 Inv-loop x nest k₀ k = (k ≤ nest .depth) × (among x (newestFirst k (nest .held)) ≡ among x (opened nest))
