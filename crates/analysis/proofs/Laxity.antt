@@ -23,8 +23,8 @@ use Rattle.table.specs.Table.{taskOf, entryOf, sheetOf, Tabled}
 use Rattle.table.specs.declared.Table.{Table}
 use Rattle.table.proofs.Laws.{task-at, tasks-count}
 use Rattle.analysis.specs.Laxity.{demandOf, demandFrom, slackFrom, pointFrom, largestFrom, laxityFrom, ofRank, laxitiesFrom, Periods, raise, lowered}
-use Rattle.analysis.proofs.Laws.{Filled, filled-ranks, ranked, total-le}
-use Rattle.analysis.proofs.Bounds.{limits}
+use Rattle.bounds.proofs.Laws.{Filled, filled-ranks, ranked, total-le}
+use Rattle.bounds.proofs.Bounds.{limits}
 use Rattle.rules.specs.Laws.{_≼_}
 use Rattle.rules.proofs.Points.{largestOf-same, ≼-trans, largest-at-least}
 use Rattle.analysis.proofs.Integers.{lowered-slack, largest-at-most, slack-at-least, slack-at-most, lowered-at-least, lowered-at-most}

@@ -1,5 +1,3 @@
-pub mod Laws
-pub mod Bounds
 pub mod Integers
 pub mod Laxity
 pub mod Counted

@@ -78,7 +78,7 @@ pub fn bounds(s: &[u8]) -> Bounds
     }
     let table = p.table;
     let cs = holders::ceilings_of(s, table);
-    let bs = analysis::bounds_of(s, table, cs);
+    let bs = bounds::bounds_of(s, table, cs);
     Bounds {
         refusal: refusal,
         bounds: bs,

@@ -5,7 +5,7 @@ use borrow.Author.Needs.{needs}
 use lib.ListN.{getD}
 use Rattle.rules.specs.Answers.{noBound, noLaxity}
 use Rattle.analysis.specs.Laxity.{ofRank}
-use Rattle.analysis.proofs.Laws.{Filled, filled-none, filled-turn}
+use Rattle.bounds.proofs.Laws.{Filled, filled-none, filled-turn}
 use Rattle.analysis.proofs.Laxity.{periods-first, laxities-end}
 use Rattle.analysis.proofs.laxities_from.Statement.{statement}
 use Rattle.analysis.proofs.laxities_from.Tie as tie

@@ -5,7 +5,7 @@ use native.Mathlib.Omega.{arith}
 use borrow.Author.Needs.{needs}
 use Rattle.table.specs.declared.Entry.{Entry}
 use Rattle.table.specs.Table.{entryOf}
-use Rattle.analysis.proofs.Laws.{Filled, filled-none, filled-turn, filled-all}
+use Rattle.bounds.proofs.Laws.{Filled, filled-none, filled-turn, filled-all}
 use Rattle.analysis.proofs.periods_of.Statement.{statement}
 use Rattle.analysis.proofs.periods_of.Tie as tie
 
