@@ -10,7 +10,7 @@ pub const IDLE: u8 = 255;
 
 /// Bytes of a record before those of its tasks.
 pub const RECORD_HEAD: usize = 7;
-const TASK_BYTES: usize = 18;
+const TASK_BYTES: usize = 22;
 /// Bytes of a whole record.
 pub const RECORD_BYTES: usize = RECORD_HEAD + SIXTEEN * TASK_BYTES;
 
@@ -23,6 +23,8 @@ pub struct TaskRecord {
     pub left: u16,
     /// Tick of release.
     pub release: u16,
+    /// Ticks blocked of the present job.
+    pub present: u16,
     pub releases: u16,
     pub completions: u16,
     pub misses: u16,
@@ -30,6 +32,8 @@ pub struct TaskRecord {
     pub blocked: u16,
     /// Worst response.
     pub worst: u16,
+    /// The most ticks that any job was blocked.
+    pub most: u16,
 }
 
 /// A job, told apart from the others of its task by its tick of release.
@@ -98,7 +102,7 @@ impl LockStack {
 }
 
 impl TaskRecord {
-    fn counts(&self) -> [u16; 6] {
+    fn counts(&self) -> [u16; 7] {
         [
             self.releases,
             self.completions,
@@ -106,6 +110,7 @@ impl TaskRecord {
             self.ran,
             self.blocked,
             self.worst,
+            self.most,
         ]
     }
 
@@ -115,15 +120,32 @@ impl TaskRecord {
         self.position = 0;
         self.left = 0;
         self.release = 0;
+        if !wrong::PRESENT_LATE && !wrong::PRESENT_KEPT {
+            self.present = 0;
+        }
+    }
+
+    /// One tick more in which the present job is blocked.
+    pub fn block(&mut self) {
+        let before = self.present;
+        self.blocked += 1;
+        self.present += 1;
+        if wrong::MOST_BEFORE {
+            self.most = self.most.max(before);
+        } else if !wrong::MOST_AT_END {
+            self.most = self.most.max(self.present);
+        }
     }
 
     /// Whether this can be the record of `task` before tick `t`.
     fn possible(&self, task: &Task, t: u16) -> bool {
         self.counts().iter().all(|count| *count <= t)
+            && self.present <= t
+            && (self.present <= self.most || wrong::PRESENT_FREE)
             && if self.pending {
                 self.release < t && self.stands_well(task)
             } else {
-                self.position == 0 && self.left == 0 && self.release == 0
+                self.position == 0 && self.left == 0 && self.release == 0 && self.present == 0
             }
     }
 
@@ -143,18 +165,21 @@ impl TaskRecord {
             position: bytes[1],
             left: word(2),
             release: word(4),
-            releases: word(6),
-            completions: word(8),
-            misses: word(10),
-            ran: word(12),
-            blocked: word(14),
-            worst: word(16),
+            present: word(6),
+            releases: word(8),
+            completions: word(10),
+            misses: word(12),
+            ran: word(14),
+            blocked: word(16),
+            worst: word(18),
+            most: word(20),
         }
     }
 
     fn write_to(&self, bytes: &mut Vec<u8>) {
         bytes.extend([u8::from(self.pending), self.position]);
-        for word in [self.left, self.release].into_iter().chain(self.counts()) {
+        let of_job = [self.left, self.release, self.present];
+        for word in of_job.into_iter().chain(self.counts()) {
             bytes.extend(word.to_be_bytes());
         }
     }

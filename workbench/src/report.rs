@@ -43,8 +43,14 @@ fn write_counts(text: &mut String, sheet: &Sheet, record: &Record) {
             text,
             format_args!(
                 "{rank} releases {} done {} missed {} ran {} blocked {} worst {} \
-                 bound {length} laxity {ticks} by {by}",
-                task.releases, task.completions, task.misses, task.ran, task.blocked, task.worst
+                 bound {length} laxity {ticks} most {} by {by}",
+                task.releases,
+                task.completions,
+                task.misses,
+                task.ran,
+                task.blocked,
+                task.worst,
+                task.most
             ),
         );
     }
@@ -234,18 +240,20 @@ fn write_record(text: &mut String, record: &Record) {
         line(
             text,
             format_args!(
-                "{rank} pending {} position {} left {} release {} releases {} done {} \
-                 missed {} ran {} blocked {} worst {}",
+                "{rank} pending {} position {} left {} release {} present {} releases {} \
+                 done {} missed {} ran {} blocked {} worst {} most {}",
                 u8::from(task.pending),
                 task.position,
                 task.left,
                 task.release,
+                task.present,
                 task.releases,
                 task.completions,
                 task.misses,
                 task.ran,
                 task.blocked,
-                task.worst
+                task.worst,
+                task.most
             ),
         );
     }

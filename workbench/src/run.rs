@@ -161,6 +161,9 @@ impl<'a> Run<'a> {
         job.position = 0;
         job.left = full_length(self.sheet.tasks[rank].steps.first().copied());
         job.release = t;
+        if !wrong::PRESENT_KEPT {
+            job.present = 0;
+        }
     }
 
     fn top_pending(&self) -> Option<usize> {
@@ -333,6 +336,9 @@ impl<'a> Run<'a> {
         if wrong::END_MISS && response == self.sheet.tasks[rank].period {
             job.misses += 1;
         }
+        if wrong::MOST_AT_END {
+            job.most = job.most.max(job.present);
+        }
         job.rest();
         if wrong::RELEASE_AFTER {
             self.record.last.release = 0;
@@ -349,7 +355,7 @@ impl<'a> Run<'a> {
         }
         for job in &mut self.record.tasks[..above] {
             if job.pending {
-                job.blocked += 1;
+                job.block();
                 if wrong::ONLY_ASKER {
                     return;
                 }

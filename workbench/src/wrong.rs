@@ -77,3 +77,13 @@ pub const BY_LATER_STEP: bool = cfg!(feature = "wrong-by-later-step");
 pub const BY_OWN: bool = cfg!(feature = "wrong-by-own");
 /// The first section that counts is named, not the longest.
 pub const BY_FIRST: bool = cfg!(feature = "wrong-by-first");
+/// A job's blocked ticks stand until the next job of its task starts.
+pub const PRESENT_LATE: bool = cfg!(feature = "wrong-present-late");
+/// A job starts with the blocked ticks of the one before.
+pub const PRESENT_KEPT: bool = cfg!(feature = "wrong-present-kept");
+/// The most that a job was blocked is looked at when it completes.
+pub const MOST_AT_END: bool = cfg!(feature = "wrong-most-at-end");
+/// The most that a job was blocked leaves out the tick just made.
+pub const MOST_BEFORE: bool = cfg!(feature = "wrong-most-before");
+/// The present job's blocked ticks may be above the most.
+pub const PRESENT_FREE: bool = cfg!(feature = "wrong-present-free");

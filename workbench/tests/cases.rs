@@ -14,8 +14,8 @@ fn case_a_whole() {
     assert_eq!(
         second(&case_a(0).with_horizon(10)),
         "ticks 10 switches 5\n\
-         0 releases 1 done 1 missed 0 ran 2 blocked 2 worst 4 bound 3 laxity 5 by 1/1\n\
-         1 releases 1 done 1 missed 0 ran 5 blocked 0 worst 7 bound 0 laxity 11 by -\n\
+         0 releases 1 done 1 missed 0 ran 2 blocked 2 worst 4 bound 3 laxity 5 most 2 by 1/1\n\
+         1 releases 1 done 1 missed 0 ran 5 blocked 0 worst 7 bound 0 laxity 11 most 0 by -\n\
          trace 1 1 0 1 1 0 1 - - -\n"
     );
 }
@@ -111,8 +111,8 @@ fn case_f_nothing_run() {
     assert_eq!(
         second(&case_a(0).with_horizon(0)),
         format!(
-            "ticks 0 switches 0\n0 {zero} bound 3 laxity 5 by 1/1\n\
-             1 {zero} bound 0 laxity 11 by -\ntrace\n"
+            "ticks 0 switches 0\n0 {zero} bound 3 laxity 5 most 0 by 1/1\n\
+             1 {zero} bound 0 laxity 11 most 0 by -\ntrace\n"
         )
     );
 }
@@ -123,6 +123,24 @@ fn going_idle_is_no_switch() {
     let answer = second(&draft.with_horizon(8));
     assert_eq!(trace(&answer), "- 0 - - - 0 - -");
     assert_eq!(switches(&answer), 2);
+}
+
+#[test]
+fn most_is_of_one_job() {
+    // Each job of rank 0 waits two ticks at its lock; there are three of them.
+    let tasks = vec![
+        DraftTask::new(10, 1, &[lock(0), run(1), unlock(0)]),
+        DraftTask::new(10, 0, &[lock(0), run(3), unlock(0)]),
+    ];
+    let draft = Draft::new(1, 0, tasks);
+    let answer = second(&draft.with_horizon(30));
+    assert_eq!(field(&answer, 0, "blocked"), 6);
+    assert_eq!(field(&answer, 0, "most"), 2);
+    assert_eq!(field(&answer, 0, "bound"), 3);
+    // At tick 2 the first of them has waited one tick, and is still pending.
+    let answer = second(&draft.with_horizon(2));
+    assert_eq!(field(&answer, 0, "done"), 0);
+    assert_eq!(field(&answer, 0, "most"), 1);
 }
 
 #[test]

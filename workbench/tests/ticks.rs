@@ -33,6 +33,8 @@ fn case_a_at_5() -> Record {
         releases: 1,
         ran: 1,
         blocked: 2,
+        present: 2,
+        most: 2,
         ..standing(1, 0)
     };
     record.tasks[1] = TaskRecord {
@@ -48,16 +50,18 @@ fn whole_answer() {
     let rest = (2..16)
         .map(|rank| {
             format!(
-                "{rank} pending 0 position 0 left 0 release 0 releases 0 done 0 \
-                 missed 0 ran 0 blocked 0 worst 0\n"
+                "{rank} pending 0 position 0 left 0 release 0 present 0 releases 0 done 0 \
+                 missed 0 ran 0 blocked 0 worst 0 most 0\n"
             )
         })
         .collect::<String>();
     assert_eq!(
         tick(&case_a(0), &case_a_at_5()),
         "runner 0\nt 6 switches 4 last 0 2\n\
-         0 pending 0 position 0 left 0 release 0 releases 1 done 1 missed 0 ran 2 blocked 2 worst 4\n\
-         1 pending 1 position 4 left 1 release 0 releases 1 done 0 missed 0 ran 4 blocked 0 worst 0\n"
+         0 pending 0 position 0 left 0 release 0 present 0 releases 1 done 1 missed 0 ran 2 \
+         blocked 2 worst 4 most 2\n\
+         1 pending 1 position 4 left 1 release 0 present 0 releases 1 done 0 missed 0 ran 4 \
+         blocked 0 worst 0 most 0\n"
             .to_string()
             + &rest
     );
@@ -93,7 +97,7 @@ fn any_byte_but_zero_is_pending() {
 
 #[test]
 fn number_16_each_reason() {
-    let reasons: [(&str, Change); 26] = [
+    let reasons: [(&str, Change); 32] = [
         ("t", |r| r.t = 60_001),
         ("switches", |r| r.switches = 6),
         ("releases", |r| r.tasks[1].releases = 6),
@@ -102,6 +106,21 @@ fn number_16_each_reason() {
         ("ran", |r| r.tasks[0].ran = 6),
         ("blocked", |r| r.tasks[1].blocked = 6),
         ("worst", |r| r.tasks[0].worst = 6),
+        ("most", |r| r.tasks[1].most = 6),
+        ("present above t", |r| {
+            r.tasks[0].present = 6;
+            r.tasks[0].most = 6;
+        }),
+        ("present above the most", |r| r.tasks[0].present = 3),
+        ("present above the most of none", |r| r.tasks[1].present = 1),
+        ("resting present", |r| {
+            r.tasks[1] = TaskRecord {
+                present: 1,
+                most: 1,
+                ..TaskRecord::default()
+            }
+        }),
+        ("unused record's most", |r| r.tasks[2].most = 1),
         ("remembered rank n", |r| r.last.rank = 2),
         ("remembered rank 253", |r| r.last = job(253, 0)),
         ("remembered rank 254", |r| r.last = job(254, 0)),
@@ -144,10 +163,16 @@ fn number_16_each_reason() {
 
 #[test]
 fn just_possible() {
-    let kinds: [Change; 7] = [
+    let kinds: [Change; 10] = [
         |r| r.switches = 5,
         |r| r.tasks[1].blocked = 5,
         |r| r.tasks[1].worst = 5,
+        |r| r.tasks[0].most = 5,
+        |r| r.tasks[0].present = 0,
+        |r| {
+            r.tasks[0].present = 5;
+            r.tasks[0].most = 5;
+        },
         |r| r.last = NO_JOB,
         |r| r.last = job(0, 4),
         |r| r.last = job(1, 4),
@@ -174,6 +199,50 @@ fn number_17_after_16() {
     let answer = tick(&case_a(0), &record);
     assert_eq!(runner(&answer), "runner 255");
     assert!(answer.contains("\nt 60000 switches 0 last 255 0\n"));
+}
+
+#[test]
+fn the_most_follows_the_present() {
+    // Rank 0 waits at its lock while rank 1 runs on.
+    for (present, most, after) in [(0, 0, 1), (2, 2, 3), (2, 3, 3), (2, 5, 5), (5, 5, 6)] {
+        let mut record = resting(5);
+        record.tasks[0] = TaskRecord {
+            present,
+            most,
+            ..standing(1, 0)
+        };
+        record.tasks[1] = TaskRecord {
+            present: 1,
+            most: 4,
+            ..standing(2, 3)
+        };
+        let answer = tick(&case_a(0), &record);
+        assert_eq!(runner(&answer), "runner 1");
+        assert_eq!(field(&answer, 0, "present"), i64::from(present) + 1);
+        assert_eq!(field(&answer, 0, "most"), after);
+        // Nothing of the runner's changes.
+        assert_eq!(field(&answer, 1, "present"), 1);
+        assert_eq!(field(&answer, 1, "most"), 4);
+    }
+}
+
+#[test]
+fn a_release_that_is_missed_leaves_the_present() {
+    let mut record = resting(12);
+    record.tasks[0] = TaskRecord {
+        present: 3,
+        most: 3,
+        ..standing(1, 0)
+    };
+    let answer = tick(&case_a(0), &record);
+    assert_eq!(runner(&answer), "runner 0");
+    assert_eq!(field(&answer, 0, "missed"), 1);
+    assert_eq!(field(&answer, 0, "present"), 0, "it completes");
+    record.tasks[1] = standing(2, 3);
+    let answer = tick(&case_a(0), &record);
+    assert_eq!(runner(&answer), "runner 1");
+    assert_eq!(field(&answer, 0, "missed"), 1);
+    assert_eq!(field(&answer, 0, "present"), 4);
 }
 
 #[test]

@@ -74,12 +74,14 @@ pub fn written(record: &Record) -> String {
             ("position", u16::from(task.position)),
             ("left", task.left),
             ("release", task.release),
+            ("present", task.present),
             ("releases", task.releases),
             ("done", task.completions),
             ("missed", task.misses),
             ("ran", task.ran),
             ("blocked", task.blocked),
             ("worst", task.worst),
+            ("most", task.most),
         ];
         text += &rank.to_string();
         for (name, number) in fields {

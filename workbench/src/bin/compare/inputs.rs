@@ -8,7 +8,7 @@ use workbench::record::{Record, TaskRecord, RECORD_HEAD};
 use workbench::sheet::Sheet;
 
 use crate::chance::Chance;
-use crate::{damage, names, records, remembered, sheets};
+use crate::{damage, limits, names, records, remembered, sheets};
 
 #[derive(Clone, Copy, PartialEq, Eq)]
 pub enum Kind {
@@ -49,7 +49,7 @@ const fn category(name: &'static str, kind: Kind, source: Source) -> Category {
     Category { name, kind, source }
 }
 
-pub const CATEGORIES: [Category; 34] = [
+pub const CATEGORIES: [Category; 35] = [
     category("cases of the scope document", Run, List(scope_cases)),
     category("both sides of the limits", Run, List(two_sided)),
     category("horizons", Run, List(horizons)),
@@ -65,6 +65,7 @@ pub const CATEGORIES: [Category; 34] = [
     category("names by hand", Run, List(names_by_hand)),
     category("names on ties", Run, Endless(4, tied_names)),
     category("tick: made by hand", Tick, List(by_hand)),
+    category("tick: both sides of limits", Tick, List(record_limits)),
     category("tick: remembered by hand", Tick, List(last_by_hand)),
     category("tick: cut and long inputs", Tick, List(tick_lengths)),
     category("tick: records along runs", Tick, Endless(6, along_runs)),
@@ -442,6 +443,10 @@ fn by_hand(_: &mut Chance) -> Vec<Vec<u8>> {
         list.push(tick_input(&case_a(0), &record));
     }
     list
+}
+
+fn record_limits(_: &mut Chance) -> Vec<Vec<u8>> {
+    limits::by_hand()
 }
 
 fn last_by_hand(_: &mut Chance) -> Vec<Vec<u8>> {

@@ -5,6 +5,7 @@ mod chance;
 mod damage;
 mod duel;
 mod inputs;
+mod limits;
 mod names;
 mod records;
 mod remembered;

@@ -31,12 +31,12 @@ pub fn possible(chance: &mut Chance, sheet: &Sheet, crowd: usize) -> Record {
     record
 }
 
-/// Any count that is possible at `t`, often the largest.
-fn count(chance: &mut Chance, t: u16) -> u16 {
+/// A count of at most so many, often the largest.
+fn count(chance: &mut Chance, most: u16) -> u16 {
     match chance.below(8) {
-        0 => t,
+        0 => most,
         1 => 0,
-        _ => chance.word(0, t),
+        _ => chance.word(0, most),
     }
 }
 
@@ -71,6 +71,7 @@ fn resting(chance: &mut Chance, t: u16) -> TaskRecord {
         ran: count(chance, t),
         blocked: count(chance, t),
         worst: count(chance, t),
+        most: count(chance, t),
         ..TaskRecord::default()
     }
 }
@@ -108,6 +109,7 @@ fn stand(chance: &mut Chance, record: &mut Record, rank: usize, task: &Task, pos
     job.position = position as u8;
     job.left = left;
     job.release = chance.word(0, record.t - 1);
+    job.present = count(chance, job.most);
 }
 
 /// The record of a run from the start, some way along it.
@@ -187,7 +189,7 @@ fn about(chance: &mut Chance, t: u16) -> u16 {
 }
 
 /// Every reason for refusal 16, and the tick of refusal 17.
-pub const SPOILS: [Spoil; 37] = [
+pub const SPOILS: [Spoil; 43] = [
     |_, _, r| r.t = LAST_TICK,
     |c, _, r| r.t = c.pick(&[60_001, 60_002, 65_535]),
     |c, _, r| r.switches = about(c, r.t),
@@ -197,6 +199,26 @@ pub const SPOILS: [Spoil; 37] = [
     |c, s, r| any_used(c, s, r).ran = about(c, r.t),
     |c, s, r| any_used(c, s, r).blocked = about(c, r.t),
     |c, s, r| any_used(c, s, r).worst = about(c, r.t),
+    |c, s, r| any_used(c, s, r).most = about(c, r.t),
+    // Blocked ticks of the present job: above t, above the most, of nobody.
+    |c, s, r| {
+        let blocked = about(c, r.t);
+        stand_and(c, s, r, is_run, |job| {
+            job.present = blocked;
+            job.most = blocked;
+        })
+    },
+    |c, s, r| {
+        let more = c.below(2) as u16;
+        stand_and(c, s, r, is_run, |job| job.present = job.most + more)
+    },
+    |c, s, r| {
+        let present = c.below(2) as u16;
+        let task = any_used(c, s, r);
+        task.rest();
+        task.most = task.most.max(1);
+        task.present = present;
+    },
     |_, s, r| r.last.rank = s.tasks.len() as u8,
     |_, s, r| r.last.rank = s.tasks.len() as u8 + 1,
     |c, s, r| r.last.rank = c.pick(&[s.tasks.len() as u8 - 1, 16, 17, 253, 254]),
@@ -224,6 +246,8 @@ pub const SPOILS: [Spoil; 37] = [
     |c, s, r| any_unused(c, s, r).ran = 1,
     |c, s, r| any_unused(c, s, r).blocked = 1,
     |c, s, r| any_unused(c, s, r).worst = 1,
+    |c, s, r| any_unused(c, s, r).most = 1,
+    |c, s, r| any_unused(c, s, r).present = 1,
     |c, s, r| {
         let task = any_used(c, s, r);
         task.rest();
@@ -309,11 +333,13 @@ pub fn nudge(chance: &mut Chance, sheet: &Sheet, record: &mut Record) {
     };
     let rank = chance.below(sheet.tasks.len());
     let job = &mut record.tasks[rank];
-    match chance.below(13) {
+    match chance.below(15) {
         0 => record.t = nudged(chance, t),
         1 => record.switches = nudged(chance, record.switches),
         2 => record.last.rank = chance.pick(&[0, 1, 2, 15, 16, 253, 254, 255]),
         12 => record.last.release = nudged(chance, record.last.release),
+        13 => job.present = nudged(chance, job.present),
+        14 => job.most = nudged(chance, job.most),
         3 => job.pending = !job.pending,
         4 => job.position = job.position.wrapping_add(1),
         5 => job.position = job.position.wrapping_sub(1),
