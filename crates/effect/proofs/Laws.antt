@@ -13,16 +13,16 @@ use lib.Seq.{drop-drop, ext-getD, getD-set-same, getD-set-other}
 use borrow.Author.Tests.{lt-ltb, le-ltb, le-leb, lt-leb, eq-eqb, ne-eqb, eqb-true, eqb-false}
 use Rattle.rules.specs.Words.{if_then_else_, _<?_, _=?_, leading}
 use Rattle.rules.specs.Sheet.{Step, Task, Sheet, taskAt, isLock, isUnlock}
-use Rattle.rules.specs.Fields.{Releases, Misses, TicksRun, TicksBlocked, up, standing, movedTo, noJob, blank, lastJob, sameJob, withTasks}
+use Rattle.rules.specs.Fields.{Releases, Misses, TicksRun, up, standing, movedTo, noJob, blank, lastJob, sameJob, withTasks}
 use Rattle.rules.specs.Record.{recordAt, ahead}
 use Rattle.rules.specs.Choice.{full, Runner, job, stuck, idle, runnerByte}
-use Rattle.rules.specs.Tick.{completed, releasesAt, released, afterReleases, nextRun, leftOfRun, behindUnlocks, advanced, spent, afterRunner, ranLast, closed}
+use Rattle.rules.specs.Tick.{completed, releasesAt, released, afterReleases, nextRun, leftOfRun, behindUnlocks, advanced, wasBlocked, spent, afterRunner, ranLast, closed}
 use Rattle.rules.specs.declared.Job.{Job}
 use Rattle.rules.specs.declared.Counts.{Counts}
 use Rattle.rules.specs.declared.TaskRecord.{TaskRecord}
 use Rattle.rules.specs.declared.LastJob.{LastJob}
 use Rattle.rules.specs.declared.State.{State}
-use Rattle.rules.proofs.Laws.{sure, below, length-row, row-at}
+use Rattle.rules.proofs.Laws.{sure, below, true-false, if-cases, length-row, row-at}
 use Rattle.rules.proofs.Reading.{periods}
 use Rattle.rules.proofs.Tick.{advanced-cases, spent-at}
 use Rattle.table.specs.Table.{here, noEntry, entryOf, taskOf, sheetOf, Tabled}
@@ -103,7 +103,7 @@ module _ (t : ℕ) (task : Task) (r : TaskRecord) where
     unfolding released
     released-missed p d ed = simp (due, p, ed, ec)
 
-    pub released-started : r .job .pending ≡ false → (left : ℕ) → left ≡ full (drop 0 (task .steps)) → (k : Job) → k ≡ standing 0 left t
+    pub released-started : r .job .pending ≡ false → (left : ℕ) → left ≡ full (drop 0 (task .steps)) → (k : Job) → k ≡ standing 0 left t 0
         → record { job = k; counts = c } ≡ released t task r
     unfolding released
     released-started p left el k ek = simp (due, p, ek, el, ec)
@@ -265,9 +265,9 @@ module _ (bytes : List ℕ) (table : Table) (from i : ℕ) (l : i < table .n) (d
       (below j i)
 
 -- rule 6: the jobs above the runner
-pub blocked-yes : (r : TaskRecord) → r .job .pending ≡ true → (c : Counts) → c ≡ up TicksBlocked (r .counts) → record { job = r .job; counts = c } ≡ blockedOnce r
+pub blocked-yes : (r : TaskRecord) → r .job .pending ≡ true → blockedOnce r ≡ wasBlocked r
 unfolding blockedOnce
-blocked-yes r p c e = simp (p, e)
+blocked-yes r p = if-cases (λ (q : TaskRecord). q ≡ wasBlocked r) (r .job .pending) (wasBlocked r) r (λ e. refl) (λ e. true-false (r .job .pending) p e)
 
 pub blocked-not : (r : TaskRecord) → r .job .pending ≡ false → blockedOnce r ≡ r
 unfolding blockedOnce

@@ -6,9 +6,8 @@ use mathlib.Core.Bool.{false}
 use lib.ListN.{length}
 use Rattle.rules.specs.Words.{if_then_else_, _<?_, _=?_, row}
 use Rattle.rules.specs.Sheet.{Task, Sheet, taskAt}
-use Rattle.rules.specs.Fields.{TicksBlocked, up, withCounts}
 use Rattle.rules.specs.Record.{recordAt}
-use Rattle.rules.specs.Tick.{releasesAt}
+use Rattle.rules.specs.Tick.{releasesAt, wasBlocked}
 use Rattle.rules.specs.Choice.{Runner, job, stuck, idle}
 use Rattle.rules.specs.declared.TaskRecord.{TaskRecord}
 
@@ -29,7 +28,7 @@ changedBelow n f records = row 16 λ i. if i <? n then f i (recordAt records i) 
 
 -- A pending job is blocked for a tick.
 unfoldable pub blockedOnce : TaskRecord → TaskRecord
-blockedOnce r = if r .job .pending then withCounts (up TicksBlocked (r .counts)) r else r
+blockedOnce r = if r .job .pending then wasBlocked r else r
 
 abbrev pub eachBlocked : (n : ℕ) → List TaskRecord → List TaskRecord
 eachBlocked n records = changedBelow n (λ i r. blockedOnce r) records

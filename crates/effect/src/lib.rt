@@ -54,7 +54,7 @@ fn released(s: &[u8], e: Entry, t: u16, r: TaskRecord) -> TaskRecord
         return TaskRecord { job: j, counts: d };
     }
     let left = full_at(s, e, 0);
-    let started = record::standing(0, left, t);
+    let started = record::standing(0, left, t, 0);
     TaskRecord {
         job: started,
         counts: c,
@@ -217,8 +217,8 @@ fn blocked_above(x: usize, st: State) -> State
         let r = next.tasks[i];
         let j = r.job;
         if j.pending {
-            let c = record::blocked_up(r.counts);
-            next.tasks[i] = TaskRecord { job: j, counts: c };
+            let q = record::was_blocked(r);
+            next.tasks[i] = q;
         }
         i += 1;
     }

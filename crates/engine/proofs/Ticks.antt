@@ -22,7 +22,7 @@ use Rattle.rules.specs.declared.State.{State}
 use Rattle.rules.proofs.Laws.{length-row}
 use Rattle.rules.proofs.Possible.{Possible, possible-parts}
 use Rattle.rules.proofs.Runner.{runner-below}
-use Rattle.rules.proofs.Kept.{startPossible, risen, released-rising, may-run, after-time, after-possible}
+use Rattle.rules.proofs.Kept.{startPossible, risen, released-rising, released-present, may-run, after-time, after-possible}
 use Rattle.holders.specs.Holders.{holders, afterTick}
 use Rattle.choice.specs.Choosable.{Choosable}
 use Rattle.holders.proofs.Moves.{holders-released, holders-still, holders-ticked}
@@ -53,7 +53,7 @@ module _ (bytes : List ℕ) (sheet : Sheet) (e : readSheet bytes ≡ read sheet)
   parts = possible-parts sheet st p
 
   pub room : AllBelow 65535 (st .tasks)
-  room i l k = omega (arith, parts .counts i l k)
+  room i l = (λ k. omega (arith, parts .counts i l k), omega (arith, parts .present i l .0))
 
   pub switches-room : st .switches < 65535
   switches-room = omega (arith, parts .switches)
@@ -64,7 +64,10 @@ module _ (bytes : List ℕ) (sheet : Sheet) (e : readSheet bytes ≡ read sheet)
 
     pub room-after : AllBelow 65535 (a .tasks)
     room-after i l =
-        rw records (λ k. omega (arith, risen (st .t) (recordAt (afterReleases sheet st) i .counts) (released-rising bytes sheet e st parts i l) k))
+        rw records (
+          λ k. omega (arith, risen (st .t) (recordAt (afterReleases sheet st) i .counts) (released-rising bytes sheet e st parts i l) k),
+          omega (arith, released-present bytes sheet e st parts i l .0),
+        )
 
     pub choosable : Choosable sheet (a .tasks)
     choosable = subst (Choosable sheet) (sym records) (choosable-released bytes sheet e st parts)

@@ -26,7 +26,7 @@ use Rattle.rules.proofs.Limits.{acceptedWithinLimits}
 use Rattle.rules.proofs.Nesting.{nests, nests-on}
 use Rattle.rules.proofs.Possible.{Single, Possible, stands-inside}
 use Rattle.rules.proofs.Steps.{held-passed, passed-takes}
-use Rattle.rules.proofs.Kept.{released-fits, holds-released, released-single, runner-rank, next-single}
+use Rattle.rules.proofs.Kept.{blocked-carries, released-fits, holds-released, released-single, runner-rank, next-single}
 use Rattle.table.specs.Table.{here}
 use Rattle.table.specs.Steps.{hereIs}
 use Rattle.table.specs.declared.Here.{Here}
@@ -188,7 +188,7 @@ module _ (bytes : List ℕ) (sheet : Sheet) (e : readSheet bytes ≡ read sheet)
     waits j s l n = ap (λ (r : TaskRecord). carries (taskAt sheet j) (r .job) s) (spent-at x sheet (st .t) rs j l)
         ∙ spent-cases (λ r. carries (taskAt sheet j) (r .job) s ≡ carries (taskAt sheet j) (recordAt rs j .job) s) x (st .t) j (taskAt sheet j) (recordAt rs j)
         (λ w. absurd (n w))
-        (λ k w u p. refl)
+        (λ k w u p. blocked-carries (taskAt sheet j) (recordAt rs j .job) s p)
         (λ w p. refl)
 
     pub holders-still : ((i : ℕ) → x ≡ job i → ⊥) → holders sheet (afterRunner x sheet (st .t) (afterReleases sheet st)) ≡ holders sheet (afterReleases sheet st)

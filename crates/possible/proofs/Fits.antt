@@ -9,7 +9,7 @@ use borrow.Author.Tests.{lt-ltb, le-ltb, le-leb, lt-leb, not-true, not-false}
 use Rattle.rules.specs.Words.{if_then_else_, _<?_, _≤?_, _=?_, _⇒_, within}
 use Rattle.rules.specs.Sheet.{Step, run, lock, unlock, Task, Sheet, isRun, isLock}
 use Rattle.rules.specs.Fields.{blank, place, zeros, zeroRecord, noneYet, sameJob}
-use Rattle.rules.specs.Record.{recordAt, ahead, countsFit, lastFits, standsWell, jobFits, recordFits, noneHeldByTwo, possible}
+use Rattle.rules.specs.Record.{recordAt, ahead, countsFit, lastFits, standsWell, jobFits, presentFits, recordFits, noneHeldByTwo, possible}
 use Rattle.rules.specs.declared.Job.{Job}
 use Rattle.rules.specs.declared.TaskRecord.{TaskRecord}
 use Rattle.rules.specs.declared.LastJob.{LastJob}
@@ -87,12 +87,22 @@ module _ (t : ℕ) (task : Task) (j : Job) where
     unfolding jobFits ahead
     job-stands l b eb = rw (not-false (j .pending) p, lt-ltb (j .release) t l) eb
 
+-- the blocked ticks of the present job
+module _ (t : ℕ) (x : TaskRecord) where
+  pub present-off : t < x .job .present → false ≡ presentFits t x
+  unfolding presentFits
+  present-off l = rw (lt-leb (x .job .present) t l) refl
+
+  pub else-most : x .job .present ≤ t → (x .job .present ≤? x .counts .most) ≡ presentFits t x
+  unfolding presentFits
+  else-most l = rw (le-leb (x .job .present) t l) refl
+
 -- the record of a rank
 module _ (bytes : List ℕ) (table : Table) (t i : ℕ) (x : TaskRecord) where
   record-by : (e : Entry) → e ≡ entryOf table i
-      → recordFits (sheetOf bytes table) t i x ≡ (countsFit t (x .counts) && jobFits t (taskOf bytes e) (x .job) && (table .n ≤? i ⇒ zeroRecord x))
+      → recordFits (sheetOf bytes table) t i x ≡ (countsFit t (x .counts) && presentFits t x && jobFits t (taskOf bytes e) (x .job) && (table .n ≤? i ⇒ zeroRecord x))
   unfolding recordFits
-  record-by e u = ap₂ (λ (task : Task) (n : ℕ). countsFit t (x .counts) && jobFits t task (x .job) && (n ≤? i ⇒ zeroRecord x))
+  record-by e u = ap₂ (λ (task : Task) (n : ℕ). countsFit t (x .counts) && presentFits t x && jobFits t task (x .job) && (n ≤? i ⇒ zeroRecord x))
       (task-at bytes table i ∙ ap (taskOf bytes) (sym u)) (tasks-count bytes table)
 
   module _ (a : Bool) (ea : a ≡ countsFit t (x .counts)) where
@@ -100,19 +110,24 @@ module _ (bytes : List ℕ) (table : Table) (t i : ℕ) (x : TaskRecord) where
     unfolding recordFits
     counts-off h = rw (← ea, not-true a h) refl
 
-    module _ (h : not a ≡ false) (e : Entry) (u : e ≡ entryOf table i) (b : Bool) (eb : b ≡ jobFits t (taskOf bytes e) (x .job)) where
-      record-past : recordFits (sheetOf bytes table) t i x ≡ (b && (table .n ≤? i ⇒ zeroRecord x))
-      record-past = record-by e u ∙ rw (← ea, ← eb, not-false a h) refl
+    module _ (h : not a ≡ false) (p : Bool) (ep : p ≡ presentFits t x) where
+      pub present-ends : not p ≡ true → false ≡ recordFits (sheetOf bytes table) t i x
+      unfolding recordFits
+      present-ends k = rw (← ea, ← ep, not-false a h, not-true p k) refl
 
-      pub job-off : not b ≡ true → false ≡ recordFits (sheetOf bytes table) t i x
-      job-off k = sym (record-past ∙ rw (not-true b k) refl)
+      module _ (g : not p ≡ false) (e : Entry) (u : e ≡ entryOf table i) (b : Bool) (eb : b ≡ jobFits t (taskOf bytes e) (x .job)) where
+        record-past : recordFits (sheetOf bytes table) t i x ≡ (b && (table .n ≤? i ⇒ zeroRecord x))
+        record-past = record-by e u ∙ rw (← ea, ← ep, ← eb, not-false a h, not-false p g) refl
 
-      module _ (k : not b ≡ false) where
-        pub inside-fits : i < table .n → true ≡ recordFits (sheetOf bytes table) t i x
-        inside-fits l = sym (record-past ∙ rw (not-false b k, lt-leb (table .n) i l) refl)
+        pub job-off : not b ≡ true → false ≡ recordFits (sheetOf bytes table) t i x
+        job-off k = sym (record-past ∙ rw (not-true b k) refl)
 
-        pub past-zero : table .n ≤ i → (z : Bool) → z ≡ zeroRecord x → z ≡ recordFits (sheetOf bytes table) t i x
-        past-zero l z ez = sym (record-past ∙ rw (not-false b k, le-leb (table .n) i l) (sym ez))
+        module _ (k : not b ≡ false) where
+          pub inside-fits : i < table .n → true ≡ recordFits (sheetOf bytes table) t i x
+          inside-fits l = sym (record-past ∙ rw (not-false b k, lt-leb (table .n) i l) refl)
+
+          pub past-zero : table .n ≤ i → (z : Bool) → z ≡ zeroRecord x → z ≡ recordFits (sheetOf bytes table) t i x
+          past-zero l z ez = sym (record-past ∙ rw (not-false b k, le-leb (table .n) i l) (sym ez))
 
 -- the sixteen records, found by looking from 0 on
 module _ (sheet : Sheet) (st : State) (i : ℕ) where

@@ -4,7 +4,7 @@ ghost use mathlib.Core.Path.{_≡_};
 ghost use Prim.Native.Nat.{_<_};
 ghost use lib.ListN.{drop};
 ghost use Rattle.rules.specs.Words.{within};
-ghost use Rattle.rules.specs.Record.{lastFits, standsWell, jobFits, recordFits, noneHeldByTwo, possible};
+ghost use Rattle.rules.specs.Record.{lastFits, standsWell, jobFits, presentFits, recordFits, noneHeldByTwo, possible};
 ghost use Rattle.table.specs.Table.{taskOf, sheetOf, Lies, Tabled};
 ghost use Rattle.possible.specs.Records.{recordsFit};
 ghost use Rattle.possible.specs.Holding.{sameHolder, sameHolders, holdsAlone};
@@ -60,7 +60,8 @@ fn stands_well(s: &[u8], e: Entry, position: usize, left: u16) -> bool
     false
 }
 
-// a task not pending has position, left and release tick zero; a pending one has a release tick below t, and stands well;
+// a task not pending has position, left, release tick and ticks blocked zero; a pending one has a release tick below t, and
+// stands well;
 fn job_fits(s: &[u8], e: Entry, t: u16, j: Job) -> bool
     requires { ⌜ Lies (now s) e ⌝ }
     ensures { λ r. ⌜ r ≡ jobFits t (taskOf (now (s .entry)) e) j ⌝ }
@@ -75,12 +76,28 @@ fn job_fits(s: &[u8], e: Entry, t: u16, j: Job) -> bool
     stands_well(s, e, position, j.left)
 }
 
-// The record of rank i: every count and worst response is at most t, its job fits, and at n and above it is zero.
+// the blocked ticks of the present job are not above t, nor above the most;
+fn present_fits(t: u16, x: TaskRecord) -> bool
+    ensures { λ r. ⌜ r ≡ presentFits t x ⌝ }
+{
+    let j = x.job;
+    let c = x.counts;
+    if t < j.present {
+        return false;
+    }
+    j.present <= c.most
+}
+
+// The record of rank i: every count and worst response is at most t, the present job's ticks blocked and the job itself fit, and
+// at n and above it is zero.
 fn record_fits(s: &[u8], table: Table, t: u16, i: usize, x: TaskRecord) -> bool
     requires { ⌜ Tabled (now s) table ⌝ }
     ensures { λ r. ⌜ r ≡ recordFits (sheetOf (now (s .entry)) table) t i x ⌝ }
 {
     if !record::counts_fit(t, x.counts) {
+        return false;
+    }
+    if !present_fits(t, x) {
         return false;
     }
     let e = entry_at(table, i);

@@ -8,9 +8,9 @@ use native.Mathlib.Omega.{arith}
 use lib.ListN.{length, getD, replicate}
 use borrow.Author.Tests.{le-leb, eq-eqb, ne-eqb, not-true, not-false, leb-true, leb-false}
 use Rattle.rules.specs.Words.{_≤?_, _=?_, all}
-use Rattle.rules.specs.Fields.{Completions, WorstResponse, placeOf, counts, counted, withCount, up, noJob, place, blank, zeros, zeroRecord, lastJob, noneYet, sameJob, noState, start}
+use Rattle.rules.specs.Fields.{Completions, TicksBlocked, WorstResponse, MostBlocked, placeOf, counts, counted, withCount, up, heldUp, noJob, place, blank, zeros, zeroRecord, lastJob, noneYet, sameJob, noState, start}
 use Rattle.rules.specs.Record.{countsFit}
-use Rattle.rules.specs.Tick.{completed}
+use Rattle.rules.specs.Tick.{completed, wasBlocked}
 use Rattle.rules.specs.declared.Job.{Job}
 use Rattle.rules.specs.declared.Counts.{Counts}
 use Rattle.rules.specs.declared.TaskRecord.{TaskRecord}
@@ -25,7 +25,7 @@ unfolding all
 all-places test [] h = refl
 all-places test (x ∷ xs) h = rw (h 0 (omega arith)) (all-places test xs (λ i l. h (suc i) (omega arith)))
 
-pub counted-size : (c : Counts) (row : List ℕ) → row ≡ counted c → length row ≡ 6
+pub counted-size : (c : Counts) (row : List ℕ) → row ≡ counted c → length row ≡ 7
 unfolding counted
 counted-size c row e = ap length e
 
@@ -42,7 +42,7 @@ pub each-fits : (t : ℕ) (c : Counts) (row : List ℕ) → row ≡ counted c �
 unfolding countsFit
 each-fits t c row e h = sym (sym (ap (all (λ x. x ≤? t)) e) ∙ all-places (λ x. x ≤? t) row (λ i l. le-leb (getD row i 0) t (h i l)))
 
--- position, left and release tick zero
+-- position, left, release tick and ticks blocked zero
 module _ (j : Job) where
   pub placed : (j .position ≡ 0 → ⊥) → false ≡ zeros (place j)
   unfolding zeros place all
@@ -53,9 +53,14 @@ module _ (j : Job) where
     unfolding zeros place all
     ticks-left n = rw (eq-eqb (j .position) 0 p, ne-eqb (j .left) 0 n) refl
 
-    pub else-released : j .left ≡ 0 → (j .release =? 0) ≡ zeros (place j)
-    unfolding zeros place all
-    else-released e = rw (eq-eqb (j .position) 0 p, eq-eqb (j .left) 0 e) (sym (and-true (j .release =? 0)))
+    module _ (e : j .left ≡ 0) where
+      pub released : (j .release ≡ 0 → ⊥) → false ≡ zeros (place j)
+      unfolding zeros place all
+      released n = rw (eq-eqb (j .position) 0 p, eq-eqb (j .left) 0 e, ne-eqb (j .release) 0 n) refl
+
+      pub else-present : j .release ≡ 0 → (j .present =? 0) ≡ zeros (place j)
+      unfolding zeros place all
+      else-present u = rw (eq-eqb (j .position) 0 p, eq-eqb (j .left) 0 e, eq-eqb (j .release) 0 u) (sym (and-true (j .present =? 0)))
 
 -- a count that is at most 0 is zero
 all-same : {A : Type 0} (p q : A → Bool) → ((x : A) → p x ≡ q x) → (xs : List A) → all p xs ≡ all q xs
@@ -89,8 +94,17 @@ pub completed-with : (response : ℕ) (c : Counts) (w : ℕ) → w ≡ max (c .w
     → withCount WorstResponse w (up Completions c) ≡ completed response c
 completed-with response c w e = rw e refl
 
+-- ticks blocked rise, with the larger of the most and the present ones
+pub blocked-with : (c : Counts) (present most : ℕ) → most ≡ max (c .most) present
+    → withCount MostBlocked most (up TicksBlocked c) ≡ withCount MostBlocked (max (c .most) present) (up TicksBlocked c)
+blocked-with c present most e = rw e refl
+
+pub blocked-of : (x : TaskRecord) (j : Job) (c : Counts) → j ≡ heldUp (x .job)
+    → c ≡ withCount MostBlocked (max (x .counts .most) (j .present)) (up TicksBlocked (x .counts)) → record { job = j; counts = c } ≡ wasBlocked x
+blocked-of x j c ej ec = rw (ec, ej) refl
+
 -- a record of no job and zero counts, a run's record that is zero, and the start
-pub blank-of : (j : Job) (c : Counts) → j ≡ noJob → c ≡ counts (λ k. getD (replicate 6 0) (placeOf k) 0) → record { job = j; counts = c } ≡ blank
+pub blank-of : (j : Job) (c : Counts) → j ≡ noJob → c ≡ counts (λ k. getD (replicate 7 0) (placeOf k) 0) → record { job = j; counts = c } ≡ blank
 blank-of j c ej ec = rw (ej, ec) refl
 
 pub no-state-of : (r : TaskRecord) (j : LastJob) → r ≡ blank → j ≡ lastJob 0 0 → record { t = 0; switches = 0; last = j; tasks = replicate 16 r } ≡ noState

@@ -10,5 +10,6 @@ use Rattle.rules.specs.declared.TaskRecord.{TaskRecord}
 abbrev pub CountsBelow : (m : ℕ) → Counts → Type 0
 CountsBelow m c = (k : Count) → count k c < m
 
+-- And so are the blocked ticks of each job.
 abbrev pub AllBelow : (m : ℕ) → List TaskRecord → Type 0
-AllBelow m records = (i : ℕ) → i < 16 → CountsBelow m (recordAt records i .counts)
+AllBelow m records = (i : ℕ) → i < 16 → CountsBelow m (recordAt records i .counts) × (recordAt records i .job .present < m)

@@ -8,12 +8,12 @@ use rules::TaskRecord;
 ghost use mathlib.Core.Path.{_≡_};
 ghost use Prim.Native.Nat.{_<_, max};
 ghost use lib.ListN.{getD};
-ghost use Rattle.rules.specs.Fields.{Releases, Misses, TicksRun, TicksBlocked, placeOf, counts, counted, up, standing, movedTo, noJob, place, blank, zeros, zeroRecord, lastJob, noneYet, sameJob, noState, start};
+ghost use Rattle.rules.specs.Fields.{Releases, Misses, TicksRun, TicksBlocked, MostBlocked, placeOf, counts, counted, withCount, up, standing, movedTo, heldUp, noJob, place, blank, zeros, zeroRecord, lastJob, noneYet, sameJob, noState, start};
 ghost use Rattle.rules.specs.Record.{countsFit};
-ghost use Rattle.rules.specs.Tick.{completed};
+ghost use Rattle.rules.specs.Tick.{completed, wasBlocked};
 
 // The counts as a row,
-pub fn counted(c: Counts) -> [u16; 6]
+pub fn counted(c: Counts) -> [u16; 7]
     ensures { λ r. ⌜ r ≡ counted c ⌝ }
 {
     [
@@ -23,11 +23,12 @@ pub fn counted(c: Counts) -> [u16; 6]
         c.ran,
         c.blocked,
         c.worst,
+        c.most,
     ]
 }
 
 // and counts from their row.
-pub fn counts_of(row: [u16; 6]) -> Counts
+pub fn counts_of(row: [u16; 7]) -> Counts
     ensures { λ r. ⌜ r ≡ counts (λ k. getD row (placeOf k) 0) ⌝ }
 {
     Counts {
@@ -37,6 +38,7 @@ pub fn counts_of(row: [u16; 6]) -> Counts
         ran: row[3],
         blocked: row[4],
         worst: row[5],
+        most: row[6],
     }
 }
 
@@ -68,15 +70,6 @@ pub fn ran_up(c: Counts) -> Counts
     d
 }
 
-pub fn blocked_up(c: Counts) -> Counts
-    requires { ⌜ c .blocked < 65535 ⌝ }
-    ensures { λ r. ⌜ r ≡ up TicksBlocked c ⌝ }
-{
-    let mut d = c;
-    d.blocked = c.blocked + 1;
-    d
-}
-
 fn larger(a: u16, b: u16) -> u16
     ensures { λ r. ⌜ r ≡ max a b ⌝ }
 {
@@ -97,15 +90,16 @@ pub fn completed(response: u16, c: Counts) -> Counts
     d
 }
 
-// A job that stands at a step, one that moves on, and none.
-pub fn standing(position: u8, left: u16, release: u16) -> Job
-    ensures { λ r. ⌜ r ≡ standing position left release ⌝ }
+// A job that stands at a step, one that moves on, one that is blocked for a tick, and none.
+pub fn standing(position: u8, left: u16, release: u16, present: u16) -> Job
+    ensures { λ r. ⌜ r ≡ standing position left release present ⌝ }
 {
     Job {
         pending: true,
         position: position,
         left: left,
         release: release,
+        present: present,
     }
 }
 
@@ -119,6 +113,16 @@ pub fn moved_to(position: u8, left: u16, j: Job) -> Job
     k
 }
 
+fn held_up(j: Job) -> Job
+    requires { ⌜ j .present < 65535 ⌝ }
+    ensures { λ r. ⌜ r ≡ heldUp j ⌝ }
+{
+    let mut k = j;
+    k.pending = true;
+    k.present = j.present + 1;
+    k
+}
+
 pub fn no_job() -> Job
     ensures { λ r. ⌜ r ≡ noJob ⌝ }
 {
@@ -127,7 +131,29 @@ pub fn no_job() -> Job
         position: 0,
         left: 0,
         release: 0,
+        present: 0,
     }
+}
+
+// The counts of a job that is blocked for a tick, with its ticks blocked; and its record.
+fn blocked_up(c: Counts, present: u16) -> Counts
+    requires { ⌜ c .blocked < 65535 ⌝ }
+    ensures { λ r. ⌜ r ≡ withCount MostBlocked (max (c .most) present) (up TicksBlocked c) ⌝ }
+{
+    let mut d = c;
+    d.blocked = c.blocked + 1;
+    d.most = larger(c.most, present);
+    d
+}
+
+pub fn was_blocked(x: TaskRecord) -> TaskRecord
+    requires { ⌜ x .counts .blocked < 65535 ⌝ }
+    requires { ⌜ x .job .present < 65535 ⌝ }
+    ensures { λ r. ⌜ r ≡ wasBlocked x ⌝ }
+{
+    let j = held_up(x.job);
+    let c = blocked_up(x.counts, j.present);
+    TaskRecord { job: j, counts: c }
 }
 
 // The job that ran last, by rank and release tick; none has run; the same job.
@@ -160,7 +186,7 @@ pub fn blank() -> TaskRecord
     ensures { λ r. ⌜ r ≡ blank ⌝ }
 {
     let j = no_job();
-    let c = counts_of([0; 6]);
+    let c = counts_of([0; 7]);
     TaskRecord { job: j, counts: c }
 }
 
@@ -191,7 +217,7 @@ pub fn counts_fit(t: u16, c: Counts) -> bool
 {
     let row = counted(c);
     let mut k: usize = 0;
-    while k < 6 {
+    while k < 7 {
         if t < row[k] {
             return false;
         }
@@ -200,7 +226,7 @@ pub fn counts_fit(t: u16, c: Counts) -> bool
     true
 }
 
-// position, left and release tick zero;
+// position, left, release tick and ticks blocked zero;
 pub fn zero_place(j: Job) -> bool
     ensures { λ r. ⌜ r ≡ zeros (place j) ⌝ }
 {
@@ -210,7 +236,10 @@ pub fn zero_place(j: Job) -> bool
     if j.left != 0 {
         return false;
     }
-    j.release == 0
+    if j.release != 0 {
+        return false;
+    }
+    j.present == 0
 }
 
 // records at n and above are zero;

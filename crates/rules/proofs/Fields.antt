@@ -1,51 +1,47 @@
 -- Laws of the record's fields: a count by its name, all of them as a row, counts that have risen.
 use Prim.Native.Nat.{ℕ, zero, suc, _≤_, _<_}
-use mathlib.Core.Path.{_≡_, refl, sym, ap, _∙_, subst}
+use mathlib.Core.Path.{_≡_, refl, sym, ap, _∙_, subst, fun-ext}
 use mathlib.Core.List.{List, [], _∷_, map}
 use mathlib.Core.Bool.{Bool, true}
 use native.Mathlib.Omega.{arith}
 use lib.ListN.{length, getD}
 use borrow.Author.Tests.{leb-true, eqb-true, le-leb}
 use Rattle.rules.specs.Words.{if_then_else_, _≤?_, _=?_, all}
-use Rattle.rules.specs.Fields.{Count, Releases, Completions, Misses, TicksRun, TicksBlocked, WorstResponse, everyCount, placeOf, count, counts, counted, withCount, noCounts, zeros}
+use Rattle.rules.specs.Fields.{Count, Releases, Completions, Misses, TicksRun, TicksBlocked, WorstResponse, MostBlocked, everyCount, placeOf, count, counts, counted, withCount, noCounts, zeros}
 use Rattle.rules.specs.Record.{countsFit}
 use Rattle.rules.specs.declared.Counts.{Counts}
 use Rattle.rules.proofs.Laws.{and-left, and-right, and-both, if-cases}
 
 -- what holds of each count by its name holds of any
-named : (P : Count → Type 0) → P Releases → P Completions → P Misses → P TicksRun → P TicksBlocked → P WorstResponse → (k : Count) → P k
-named P a b c d e f = elim [ Releases ↦ a | Completions ↦ b | Misses ↦ c | TicksRun ↦ d | TicksBlocked ↦ e | WorstResponse ↦ f ]
+named : (P : Count → Type 0) → P Releases → P Completions → P Misses → P TicksRun → P TicksBlocked → P WorstResponse → P MostBlocked → (k : Count) → P k
+named P a b c d e f g = elim [ Releases ↦ a | Completions ↦ b | Misses ↦ c | TicksRun ↦ d | TicksBlocked ↦ e | WorstResponse ↦ f | MostBlocked ↦ g ]
 
 -- counts made by name have what they were made of,
 pub count-made : (f : Count → ℕ) (k : Count) → count k (counts f) ≡ f k
-count-made f = named (λ k. count k (counts f) ≡ f k) refl refl refl refl refl refl
+count-made f = named (λ k. count k (counts f) ≡ f k) refl refl refl refl refl refl refl
 
 -- and stand in the row at their places
 pub counted-at : (c : Counts) (k : Count) → getD (counted c) (placeOf k) 0 ≡ count k c
 unfolding counted
-counted-at c = named (λ k. getD (counted c) (placeOf k) 0 ≡ count k c) refl refl refl refl refl refl
+counted-at c = named (λ k. getD (counted c) (placeOf k) 0 ≡ count k c) refl refl refl refl refl refl refl
 
 place-below : (c : Counts) (k : Count) → placeOf k < length (counted c)
 unfolding counted
-place-below c = named (λ k. placeOf k < length (counted c)) (omega arith) (omega arith) (omega arith) (omega arith) (omega arith) (omega arith)
+place-below c = named (λ k. placeOf k < length (counted c)) (omega arith) (omega arith) (omega arith) (omega arith) (omega arith) (omega arith) (omega arith)
 
 -- two counts at one place are one
 abbrev at-place : ℕ → Count
 at-place i = getD everyCount i Releases
 
 place-back : (k : Count) → at-place (placeOf k) ≡ k
-place-back = named (λ k. at-place (placeOf k) ≡ k) refl refl refl refl refl refl
+place-back = named (λ k. at-place (placeOf k) ≡ k) refl refl refl refl refl refl refl
 
 one-place : (j k : Count) → placeOf j ≡ placeOf k → j ≡ k
 one-place j k e = sym (place-back j) ∙ ap at-place e ∙ place-back k
 
 -- counts are the same where each is
 pub same-counts : (c d : Counts) → ((k : Count) → count k c ≡ count k d) → c ≡ d
-same-counts c d h = go _ _ _ _ _ _ (h Releases) (h Completions) (h Misses) (h TicksRun) (h TicksBlocked) (h WorstResponse)
-  where
-    go : (r k m x b w : ℕ) → r ≡ d .releases → k ≡ d .completions → m ≡ d .misses → x ≡ d .ran → b ≡ d .blocked → w ≡ d .worst
-        → record { releases = r; completions = k; misses = m; ran = x; blocked = b; worst = w } ≡ d
-    go r k m x b w e1 e2 e3 e4 e5 e6 = rw (e1, e2, e3, e4, e5, e6) refl
+same-counts c d h = ap counts (fun-ext h)
 
 -- what a test says of a whole row it says of each place
 pub all-at : (test : ℕ → Bool) (xs : List ℕ) → all test xs ≡ true → (i : ℕ) → i < length xs → test (getD xs i 0) ≡ true

@@ -3,14 +3,14 @@ use Prim.Native.Nat.{ℕ, zero, suc, _+_, _-_, _≤_, _<_, max}
 use mathlib.Core.Path.{_≡_, refl, sym, ap, _∙_, subst}
 use mathlib.Core.Logic.{_⊎_, inl, inr, ⊎-elim}
 use mathlib.Core.List.{List}
-use mathlib.Core.Bool.{Bool, true, false}
+use mathlib.Core.Bool.{Bool, true, false, _&&_}
 use native.Mathlib.Omega.{arith}
 use lib.ListN.{length, getD-replicate}
 use borrow.Author.Tests.{eqb-true}
 use Rattle.rules.specs.Words.{if_then_else_, _=?_, any, among}
 use Rattle.rules.specs.Sheet.{Task, Sheet, taskAt, heldOnTop, held}
 use Rattle.rules.specs.Reading.{read, readSheet}
-use Rattle.rules.specs.Fields.{Count, Releases, Completions, Misses, TicksRun, TicksBlocked, WorstResponse, count, up, noJob, blank, sameJob, start}
+use Rattle.rules.specs.Fields.{Count, Releases, Completions, Misses, TicksRun, TicksBlocked, WorstResponse, MostBlocked, count, up, heldUp, noJob, blank, sameJob, start}
 use Rattle.rules.specs.Record.{recordAt, behind, ahead, carries, holds, possible}
 use Rattle.rules.specs.Choice.{Runner, job, stuck, idle, heldByOther, runner}
 use Rattle.rules.specs.Tick.{released, afterReleases, completed, advanced, spent, afterRunner, ranLast, closed, runnerOf, tick}
@@ -25,7 +25,7 @@ use Rattle.rules.proofs.Limits.{acceptedWithinLimits}
 use Rattle.rules.proofs.Runner.{runner-may}
 use Rattle.rules.proofs.Tick.{released-cases, advanced-cases, spent-cases, released-at, past-at, spent-at}
 use Rattle.rules.proofs.Fields.{CountsFit, Within, set-within, blank-counts}
-use Rattle.rules.proofs.Possible.{JobFits, LastFits, Single, Possible, possible-parts, parts-possible}
+use Rattle.rules.proofs.Possible.{JobFits, PresentFits, LastFits, Single, Possible, possible-parts, parts-possible}
 use Rattle.rules.proofs.Steps.{next-run, goes-on-well, begins-well, comes-well, advanced-carries}
 
 -- no job fits at any tick,
@@ -47,6 +47,7 @@ startPossible bytes sheet e =
       switches = omega arith;
       last = inr refl;
       counts = λ i l. subst (λ (r : TaskRecord). CountsFit 0 (r .counts)) (sym (at i l)) (blank-counts 0);
+      present = λ i l. subst (PresentFits 0) (sym (at i l)) (omega arith, omega arith);
       job = λ i l. subst (λ (r : TaskRecord). JobFits 0 (taskAt sheet i) (r .job)) (sym (at i l)) (blank-job 0 (taskAt sheet i));
       past = λ i l h. at i l;
       single = λ i j s li lj ls hi hj. absurd (blank-holds (taskAt sheet i) s (subst (λ (r : TaskRecord). carries (taskAt sheet i) (r .job) s ≡ true) (at i li) hi));
@@ -54,7 +55,7 @@ startPossible bytes sheet e =
 
 -- rule 1 raises releases and misses; the rest of a tick raises the others
 abbrev atRelease : Count → Bool
-atRelease = elim [ Releases ↦ true | Completions ↦ false | Misses ↦ true | TicksRun ↦ false | TicksBlocked ↦ false | WorstResponse ↦ false ]
+atRelease = elim [ Releases ↦ true | Completions ↦ false | Misses ↦ true | TicksRun ↦ false | TicksBlocked ↦ false | WorstResponse ↦ false | MostBlocked ↦ false ]
 
 -- so after the releases those two may have risen, and at the end of the tick all
 abbrev pub Rising : (t : ℕ) → Counts → Type 0
@@ -96,15 +97,37 @@ counts-advanced t task r f =
     (set-within limit (up Completions c) WorstResponse (max (c .worst) (t + 1 - r .job .release)) done (omega (arith, f WorstResponse))))
 
 -- and those of every rank
-counts-spent : (x : Runner) (t i : ℕ) (task : Task) (r : TaskRecord) → Rising t (r .counts) → CountsFit (t + 1) (spent x t i task r .counts)
-counts-spent x t i task r f = spent-cases (λ y. CountsFit (t + 1) (y .counts)) x t i task r
+counts-spent : (x : Runner) (t i : ℕ) (task : Task) (r : TaskRecord) → Rising t (r .counts) → PresentFits t r → CountsFit (t + 1) (spent x t i task r .counts)
+counts-spent x t i task r f g =
+    let limit : Count → ℕ = λ k. t + 1 in
+    let c = r .counts in
+    let longer = one-more limit c TicksBlocked (risen t c f) (omega (arith, f TicksBlocked)) in
+    spent-cases (λ y. CountsFit (t + 1) (y .counts)) x t i task r
     (λ e. counts-advanced t task r f)
-    (λ k e l p. one-more (λ k. t + 1) (r .counts) TicksBlocked (risen t (r .counts) f) (omega (arith, f TicksBlocked)))
-    (λ e p. risen t (r .counts) f)
+    (λ k e l p. set-within limit (up TicksBlocked c) MostBlocked (max (c .most) (r .job .present + 1)) longer (omega (arith, f MostBlocked, g .0)))
+    (λ e p. risen t c f)
+
+-- the blocked ticks of the present job: a job starts with none and ends with none, and one that is blocked raises the most with
+-- them
+present-released : (t : ℕ) (task : Task) (r : TaskRecord) → PresentFits t r → PresentFits t (released t task r)
+present-released t task r g = released-cases (PresentFits t) t task r (λ e. g) (λ e p. g) (λ e p. (omega arith, omega arith))
+
+present-spent : (x : Runner) (t i : ℕ) (task : Task) (r : TaskRecord) → PresentFits t r → PresentFits (t + 1) (spent x t i task r)
+present-spent x t i task r g =
+    let on : PresentFits (t + 1) r = (omega (arith, g .0), g .1) in
+    spent-cases (PresentFits (t + 1)) x t i task r
+    (λ e. advanced-cases (λ y. (y .job .present ≤ t + 1) × (y .job .present ≤ y .counts .most)) t task r
+    (λ l. on) (λ l h. on) (λ l h. (omega arith, omega arith)))
+    (λ k e l p. (omega (arith, g .0), omega (arith, g .1)))
+    (λ e p. on)
 
 -- jobs: one that waits, one that starts, and the runner
 job-waits : (t : ℕ) (task : Task) (j : Job) → JobFits t task j → JobFits (t + 1) task j
 job-waits t task j f = record { rests = f .rests; release = λ p. omega (arith, f .release p); stands = f .stands }
+
+job-blocked : (t : ℕ) (task : Task) (j : Job) → j .pending ≡ true → JobFits t task j → JobFits t task (heldUp j)
+unfolding ahead
+job-blocked t task j p f = record { rests = λ q. true-false true refl q; release = λ q. f .release p; stands = λ q. f .stands p }
 
 -- after the releases: a job that starts stands at a run or a lock, released at t
 job-released : (m t : ℕ) (task : Task) (r : TaskRecord) → TaskLimits m task → JobFits t task (r .job) → JobFits (t + 1) task (released t task r .job)
@@ -125,7 +148,12 @@ job-advanced m t task r τ p f =
     (λ l h. record { rests = λ q. true-false true refl q; release = λ q. f .release p; stands = λ q. comes-well m task (r .job) τ h })
     (λ l h. blank-job (t + 1) task)
 
--- a release leaves what a job holds: one that starts holds nothing
+-- a job that is blocked holds what it held,
+pub blocked-carries : (task : Task) (j : Job) (s : ℕ) → j .pending ≡ true → carries task (heldUp j) s ≡ carries task j s
+unfolding carries behind
+blocked-carries task j s p = ap (λ (b : Bool). b && among s (held (behind task j))) (sym p)
+
+-- and a release leaves what a job holds: one that starts holds nothing
 released-carries : (t : ℕ) (task : Task) (r : TaskRecord) (s : ℕ) → carries task (released t task r .job) s ≡ carries task (r .job) s
 unfolding carries behind held heldOnTop among any
 released-carries t task r s = released-cases (λ x. carries task (x .job) s ≡ carries task (r .job) s) t task r
@@ -155,6 +183,11 @@ module _ (bytes : List ℕ) (sheet : Sheet) (e : readSheet bytes ≡ read sheet)
   released-rising i l = each-released (λ r. Rising (st .t) (r .counts)) i l
       (λ u. counts-released (st .t) (taskAt sheet i) (recordAt (st .tasks) i) (π .counts i l))
       (λ u. rising (st .t) (recordAt (st .tasks) i .counts) (π .counts i l))
+
+  pub released-present : (i : ℕ) → i < 16 → PresentFits (st .t) (recordAt rs i)
+  released-present i l = each-released (PresentFits (st .t)) i l
+      (λ u. present-released (st .t) (taskAt sheet i) (recordAt (st .tasks) i) (π .present i l))
+      (λ u. π .present i l)
 
   -- jobs,
   pub released-fits : (i : ℕ) → i < 16 → JobFits (st .t + 1) (taskAt sheet i) (recordAt rs i .job)
@@ -194,7 +227,7 @@ module _ (bytes : List ℕ) (sheet : Sheet) (e : readSheet bytes ≡ read sheet)
     next-fits i l = subst (λ (r : TaskRecord). JobFits (st .t + 1) (taskAt sheet i) (r .job)) (sym (spent-at x sheet (st .t) rs i l))
         (spent-cases (λ r. JobFits (st .t + 1) (taskAt sheet i) (r .job)) x (st .t) i (taskAt sheet i) (recordAt rs i)
         (λ z. job-advanced (sheet .semaphores) (st .t) (taskAt sheet i) (recordAt rs i) (acceptedWithinLimits bytes sheet e .each i (may i z .rank)) (may i z .pending) (released-fits i l))
-        (λ k z u p. released-fits i l)
+        (λ k z u p. job-blocked (st .t + 1) (taskAt sheet i) (recordAt rs i .job) p (released-fits i l))
         (λ z p. released-fits i l))
 
     -- the records at n and above: none of them runs, and none is blocked
@@ -212,7 +245,7 @@ module _ (bytes : List ℕ) (sheet : Sheet) (e : readSheet bytes ≡ read sheet)
     unfolding holds
     held-or-took i s l h = spent-cases (λ r. carries (taskAt sheet i) (r .job) s ≡ true → HeldOrTook i s) x (st .t) i (taskAt sheet i) (recordAt rs i)
         (λ z c. ⊎-elim inl (λ v. inr (z, v)) (advanced-carries (st .t) (taskAt sheet i) (recordAt rs i) s (may i z .pending) c))
-        (λ k z u p c. inl c)
+        (λ k z u p c. inl (sym (blocked-carries (taskAt sheet i) (recordAt rs i .job) s p) ∙ c))
         (λ z p c. inl c)
         (subst (λ (r : TaskRecord). carries (taskAt sheet i) (r .job) s ≡ true) (spent-at x sheet (st .t) rs i l) h)
 
@@ -258,7 +291,8 @@ module _ (bytes : List ℕ) (sheet : Sheet) (e : readSheet bytes ≡ read sheet)
       time = omega arith;
       switches = switches-rise (sameJob (ranLast x rs (st .last)) (st .last));
       last = ran-fits x may;
-      counts = λ i l. subst (λ (r : TaskRecord). CountsFit (st .t + 1) (r .counts)) (sym (spent-at x sheet (st .t) rs i l)) (counts-spent x (st .t) i (taskAt sheet i) (recordAt rs i) (released-rising i l));
+      counts = λ i l. subst (λ (r : TaskRecord). CountsFit (st .t + 1) (r .counts)) (sym (spent-at x sheet (st .t) rs i l)) (counts-spent x (st .t) i (taskAt sheet i) (recordAt rs i) (released-rising i l) (released-present i l));
+      present = λ i l. subst (PresentFits (st .t + 1)) (sym (spent-at x sheet (st .t) rs i l)) (present-spent x (st .t) i (taskAt sheet i) (recordAt rs i) (released-present i l));
       job = next-fits;
       past = next-past;
       single = next-single;

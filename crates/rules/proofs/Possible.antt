@@ -5,25 +5,29 @@ use mathlib.Core.Logic.{_⊎_, inl, inr, ⊎-elim}
 use mathlib.Core.List.{List, [], _∷_}
 use mathlib.Core.Bool.{Bool, true, false, not, _&&_}
 use native.Mathlib.Omega.{arith}
-use lib.ListN.{length, drop}
+use lib.ListN.{length, getD, drop}
 use borrow.Author.Tests.{ltb-true, leb-true, eqb-true, lt-ltb, le-leb, eq-eqb, not-true}
 use Rattle.rules.specs.Words.{if_then_else_, _<?_, _≤?_, _=?_, _⇒_, every, all}
 use Rattle.rules.specs.Sheet.{Step, Task, Sheet, taskAt}
 use Rattle.rules.specs.Fields.{noJob, blank, place, counted, zeros, zeroRecord, noneYet, sameJob}
-use Rattle.rules.specs.Record.{recordAt, ahead, holds, countsFit, lastFits, standsWell, jobFits, recordFits, noneHeldByTwo, possible}
+use Rattle.rules.specs.Record.{recordAt, ahead, holds, countsFit, lastFits, standsWell, jobFits, presentFits, recordFits, noneHeldByTwo, possible}
 use Rattle.rules.specs.declared.Job.{Job}
 use Rattle.rules.specs.declared.Counts.{Counts}
 use Rattle.rules.specs.declared.TaskRecord.{TaskRecord}
 use Rattle.rules.specs.declared.LastJob.{LastJob}
 use Rattle.rules.specs.declared.State.{State}
-use Rattle.rules.proofs.Fields.{CountsFit, counts-fit, fit-counts, no-counts}
+use Rattle.rules.proofs.Fields.{CountsFit, counts-fit, fit-counts, no-counts, all-at}
 use Rattle.rules.proofs.Laws.{sure, true-false, and-left, and-right, and-both, or-cases, or-right, implied, implies-yes, every-at, every-of}
 
--- a task not pending has position, left and release tick zero; a pending one has a release tick below t, and stands well
+-- a task not pending has no job, with every number zero; a pending one has a release tick below t, and stands well
 pub record JobFits (t : ℕ) (task : Task) (j : Job) : Type 0 where
   pub rests : j .pending ≡ false → j ≡ noJob
   pub release : j .pending ≡ true → j .release < t
   pub stands : j .pending ≡ true → standsWell (ahead task j) (j .left) ≡ true
+
+-- the blocked ticks of the present job are at most t, and at most the most
+abbrev pub PresentFits : (t : ℕ) → TaskRecord → Type 0
+PresentFits t r = (r .job .present ≤ t) × (r .job .present ≤ r .counts .most)
 
 -- the remembered job's rank is below n and its release tick below t, or none has run
 abbrev pub LastFits : (n t : ℕ) → LastJob → Type 0
@@ -56,23 +60,20 @@ pub record Possible (sheet : Sheet) (st : State) : Type 0 where
   pub switches : st .switches ≤ st .t
   pub last : LastFits (length (sheet .tasks)) (st .t) (st .last)
   pub counts : (i : ℕ) → i < 16 → CountsFit (st .t) (recordAt (st .tasks) i .counts)
+  pub present : (i : ℕ) → i < 16 → PresentFits (st .t) (recordAt (st .tasks) i)
   pub job : (i : ℕ) → i < 16 → JobFits (st .t) (taskAt sheet i) (recordAt (st .tasks) i .job)
   pub past : (i : ℕ) → i < 16 → length (sheet .tasks) ≤ i → recordAt (st .tasks) i ≡ blank
   pub single : Single (holds sheet (st .tasks))
 
 -- a job that is not pending and whose numbers are zero is no job
 rests : (j : Job) → j .pending ≡ false → zeros (place j) ≡ true → j ≡ noJob
-unfolding zeros place all
+unfolding zeros place
 rests j p e =
-    let past1 = and-right (j .position =? 0) _ e in
-    let past2 = and-right (j .left =? 0) _ past1 in
-    let position = eqb-true (j .position) 0 (and-left (j .position =? 0) _ e) in
-    let left = eqb-true (j .left) 0 (and-left (j .left =? 0) _ past1) in
-    let release = eqb-true (j .release) 0 (and-left (j .release =? 0) _ past2) in
-    same (j .pending) (j .position) (j .left) (j .release) p position left release
+    let zero : (i : ℕ) → i < length (place j) → getD (place j) i 0 ≡ 0 = λ i l. eqb-true (getD (place j) i 0) 0 (all-at (λ x. x =? 0) (place j) e i l) in
+    same (j .pending) (j .position) (j .left) (j .release) (j .present) p (zero 0 (omega arith)) (zero 1 (omega arith)) (zero 2 (omega arith)) (zero 3 (omega arith))
   where
-    same : (p : Bool) (a b c : ℕ) → p ≡ false → a ≡ 0 → b ≡ 0 → c ≡ 0 → record { pending = p; position = a; left = b; release = c } ≡ noJob
-    same p a b c w x y z = rw (w, x, y, z) refl
+    same : (p : Bool) (a b c d : ℕ) → p ≡ false → a ≡ 0 → b ≡ 0 → c ≡ 0 → d ≡ 0 → record { pending = p; position = a; left = b; release = c; present = d } ≡ noJob
+    same p a b c d v w x y z = rw (v, w, x, y, z) refl
 
 -- a job
 pub job-fits : (t : ℕ) (task : Task) (j : Job) → jobFits t task j ≡ true → JobFits t task j
@@ -90,6 +91,17 @@ job-fits t task j e = go (j .pending) refl e
       release = λ q. true-false (j .pending) q p;
       stands = λ q. true-false (j .pending) q p;
     }
+
+-- the blocked ticks of the present job
+present-fits : (t : ℕ) (r : TaskRecord) → presentFits t r ≡ true → PresentFits t r
+unfolding presentFits
+present-fits t r e =
+    let present = r .job .present in
+    (leb-true present t (and-left (present ≤? t) _ e), leb-true present (r .counts .most) (and-right (present ≤? t) _ e))
+
+fit-present : (t : ℕ) (r : TaskRecord) → PresentFits t r → presentFits t r ≡ true
+unfolding presentFits
+fit-present t r f = and-both _ _ (le-leb _ _ (f .0)) (le-leb _ _ (f .1))
 
 -- a job, back
 pub fit-job : (t : ℕ) (task : Task) (j : Job) → JobFits t task j → jobFits t task j ≡ true
@@ -156,11 +168,13 @@ module _ (sheet : Sheet) (st : State) where
         switches = leb-true (st .switches) (st .t) (and-right (st .t ≤? 60000) _ upTo2);
         last = last-fits n (st .t) (st .last) (and-right (st .t ≤? 60000 && st .switches ≤? st .t) _ upTo3);
         counts = λ i l. let r = recordAt (st .tasks) i in
-            counts-fit (st .t) (r .counts) (and-left _ (jobFits (st .t) (taskAt sheet i) (r .job)) (and-left _ (n ≤? i ⇒ zeroRecord r) (rank i l)));
+            counts-fit (st .t) (r .counts) (and-left _ (presentFits (st .t) r) (and-left _ (jobFits (st .t) (taskAt sheet i) (r .job)) (and-left _ (n ≤? i ⇒ zeroRecord r) (rank i l))));
+        present = λ i l. let r = recordAt (st .tasks) i in
+            present-fits (st .t) r (and-right (countsFit (st .t) (r .counts)) _ (and-left _ (jobFits (st .t) (taskAt sheet i) (r .job)) (and-left _ (n ≤? i ⇒ zeroRecord r) (rank i l))));
         job = λ i l. let r = recordAt (st .tasks) i in
-            job-fits (st .t) (taskAt sheet i) (r .job) (and-right (countsFit (st .t) (r .counts)) _ (and-left _ (n ≤? i ⇒ zeroRecord r) (rank i l)));
+            job-fits (st .t) (taskAt sheet i) (r .job) (and-right (countsFit (st .t) (r .counts) && presentFits (st .t) r) _ (and-left _ (n ≤? i ⇒ zeroRecord r) (rank i l)));
         past = λ i l h. let r = recordAt (st .tasks) i in
-            is-blank r (implies-yes (n ≤? i) (zeroRecord r) (and-right (countsFit (st .t) (r .counts) && jobFits (st .t) (taskAt sheet i) (r .job)) _ (rank i l)) (le-leb n i h));
+            is-blank r (implies-yes (n ≤? i) (zeroRecord r) (and-right (countsFit (st .t) (r .counts) && presentFits (st .t) r && jobFits (st .t) (taskAt sheet i) (r .job)) _ (rank i l)) (le-leb n i h));
         single = held-by-one sheet (st .tasks) (and-right (st .t ≤? 60000 && st .switches ≤? st .t && lastFits n (st .t) (st .last) && every 16 Rank) _ e);
       }
 
@@ -171,8 +185,10 @@ module _ (sheet : Sheet) (st : State) where
       let n = length (sheet .tasks) in
       let last = fit-last n (st .t) (st .last) (f .last) in
       let rank = every-of 16 Rank (λ i l. let r = recordAt (st .tasks) i in
-      and-both (countsFit (st .t) (r .counts) && jobFits (st .t) (taskAt sheet i) (r .job)) (n ≤? i ⇒ zeroRecord r)
-      (and-both _ _ (fit-counts (st .t) (r .counts) (f .counts i l)) (fit-job (st .t) (taskAt sheet i) (r .job) (f .job i l)))
+      and-both (countsFit (st .t) (r .counts) && presentFits (st .t) r && jobFits (st .t) (taskAt sheet i) (r .job)) (n ≤? i ⇒ zeroRecord r)
+      (and-both (countsFit (st .t) (r .counts) && presentFits (st .t) r) _
+      (and-both _ _ (fit-counts (st .t) (r .counts) (f .counts i l)) (fit-present (st .t) r (f .present i l)))
+      (fit-job (st .t) (taskAt sheet i) (r .job) (f .job i l)))
       (⊎-elim
       (λ (u : (n ≤? i) ≡ true). implied (n ≤? i) (zeroRecord r) (ap zeroRecord (f .past i l (leb-true n i u))))
       (λ (u : (n ≤? i) ≡ false). rw u refl)

@@ -8,10 +8,10 @@ use lib.ListN.{length, drop}
 use borrow.Author.Tests.{ltb-true, ltb-false, eqb-true, eqb-false, lt-ltb, le-ltb, not-true, not-false}
 use Rattle.rules.specs.Words.{_<?_, _=?_}
 use Rattle.rules.specs.Sheet.{Task, Sheet, taskAt}
-use Rattle.rules.specs.Fields.{Releases, Misses, TicksRun, TicksBlocked, up, standing, movedTo, noJob, withJob, withCounts, blank}
+use Rattle.rules.specs.Fields.{Releases, Misses, TicksRun, up, standing, movedTo, noJob, withJob, withCounts, blank}
 use Rattle.rules.specs.Record.{recordAt}
 use Rattle.rules.specs.Choice.{Runner, job, stuck, idle, full}
-use Rattle.rules.specs.Tick.{completed, releasesAt, released, afterReleases, nextRun, leftOfRun, behindUnlocks, advanced, spent, afterRunner}
+use Rattle.rules.specs.Tick.{completed, releasesAt, released, afterReleases, nextRun, leftOfRun, behindUnlocks, advanced, wasBlocked, spent, afterRunner}
 use Rattle.rules.specs.declared.TaskRecord.{TaskRecord}
 use Rattle.rules.specs.declared.State.{State}
 use Rattle.rules.proofs.Laws.{and-left, and-right, and-denied, if-cases, row-at}
@@ -21,7 +21,7 @@ abbrev pub missed : TaskRecord → TaskRecord
 missed r = withCounts (up Misses (up Releases (r .counts))) r
 
 abbrev pub begun : (t : ℕ) → Task → TaskRecord → TaskRecord
-begun t task r = record { job = standing 0 (full (task .steps)) t; counts = up Releases (r .counts) }
+begun t task r = record { job = standing 0 (full (task .steps)) t 0; counts = up Releases (r .counts) }
 
 -- no release, a miss, or a start
 pub released-cases : (P : TaskRecord → Type 0) (t : ℕ) (task : Task) (r : TaskRecord)
@@ -62,12 +62,9 @@ advanced-cases P t task r goesOn comes completes =
     (λ u. comes used (ltb-true next (length (task .steps)) u))
     (λ u. completes used (ltb-false next (length (task .steps)) u)))
 
--- 6. the runner, and a job that is blocked
+-- 6. the runner
 abbrev pub hasRun : (t : ℕ) → Task → TaskRecord → TaskRecord
 hasRun t task r = withCounts (up TicksRun (advanced t task r .counts)) (advanced t task r)
-
-abbrev pub wasBlocked : TaskRecord → TaskRecord
-wasBlocked r = withCounts (up TicksBlocked (r .counts)) r
 
 -- (nobody who is stuck or idle runs)
 stuck-runs : {A : Type 0} (k : ℕ) → stuck ≡ job k → A

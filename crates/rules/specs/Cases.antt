@@ -17,7 +17,7 @@ use Rattle.rules.specs.declared.By.{By}
 use Rattle.rules.specs.declared.State.{State}
 use Rattle.rules.specs.declared.TaskRecord.{TaskRecord}
 
--- What must come out. The counts of a rank: releases, done, missed, ran, blocked, worst.
+-- What must come out. The counts of a rank: releases, done, missed, ran, blocked, worst, most blocked.
 pub data Outcome : Type 0 where
   Ticks : ℕ → Outcome
   Trace : List ℕ → Outcome
@@ -84,8 +84,8 @@ A = record {
       Ticks 10
       ∷ Trace (1 ∷ 1 ∷ 0 ∷ 1 ∷ 1 ∷ 0 ∷ 1 ∷ 255 ∷ 255 ∷ 255 ∷ [])
       ∷ Switches 5
-      ∷ Counts 0 (1 ∷ 1 ∷ 0 ∷ 2 ∷ 2 ∷ 4 ∷ [])
-      ∷ Counts 1 (1 ∷ 1 ∷ 0 ∷ 5 ∷ 0 ∷ 7 ∷ [])
+      ∷ Counts 0 (1 ∷ 1 ∷ 0 ∷ 2 ∷ 2 ∷ 4 ∷ 2 ∷ [])
+      ∷ Counts 1 (1 ∷ 1 ∷ 0 ∷ 5 ∷ 0 ∷ 7 ∷ 0 ∷ [])
       ∷ Bounds (3 ∷ 0 ∷ [])
       ∷ Names (By.Section 1 1 ∷ By.Nothing ∷ [])
       ∷ Laxities (pos 5 ∷ pos 11 ∷ [])
@@ -101,7 +101,7 @@ A2 = record {
   outcomes =
       Trace (1 ∷ 1 ∷ 1 ∷ 1 ∷ 0 ∷ 0 ∷ 1 ∷ 255 ∷ 255 ∷ 255 ∷ [])
       ∷ Switches 3
-      ∷ Counts 0 (1 ∷ 1 ∷ 0 ∷ 2 ∷ 2 ∷ 4 ∷ [])
+      ∷ Counts 0 (1 ∷ 1 ∷ 0 ∷ 2 ∷ 2 ∷ 4 ∷ 2 ∷ [])
       ∷ [];
 }
 
@@ -114,8 +114,8 @@ A3 = record {
   outcomes =
       Trace (1 ∷ 1 ∷ 0 ∷ 1 ∷ 1 ∷ 0 ∷ 1 ∷ 2 ∷ 2 ∷ 255 ∷ [])
       ∷ Switches 6
-      ∷ Counts 0 (1 ∷ 1 ∷ 0 ∷ 2 ∷ 2 ∷ 4 ∷ [])
-      ∷ Counts 1 (1 ∷ 1 ∷ 0 ∷ 5 ∷ 0 ∷ 7 ∷ [])
+      ∷ Counts 0 (1 ∷ 1 ∷ 0 ∷ 2 ∷ 2 ∷ 4 ∷ 2 ∷ [])
+      ∷ Counts 1 (1 ∷ 1 ∷ 0 ∷ 5 ∷ 0 ∷ 7 ∷ 0 ∷ [])
       ∷ [];
 }
 
@@ -145,7 +145,7 @@ D = record {
   outcomes =
       Trace (0 ∷ 0 ∷ 0 ∷ 255 ∷ 0 ∷ [])
       ∷ Switches 2
-      ∷ Counts 0 (3 ∷ 1 ∷ 1 ∷ 4 ∷ 0 ∷ 3 ∷ [])
+      ∷ Counts 0 (3 ∷ 1 ∷ 1 ∷ 4 ∷ 0 ∷ 3 ∷ 0 ∷ [])
       ∷ [];
 }
 
@@ -155,14 +155,14 @@ D2 = record {
   from = start;
   ticks = 6;
   outcomes =
-      Counts 0 (2 ∷ 2 ∷ 0 ∷ 6 ∷ 0 ∷ 3 ∷ [])
+      Counts 0 (2 ∷ 2 ∷ 0 ∷ 6 ∷ 0 ∷ 3 ∷ 0 ∷ [])
       ∷ [];
 }
 
 -- two jobs, released at 0, that stand at their second lock at tick 2
 abbrev pub atSecondLock : TaskRecord
 atSecondLock = record {
-  job = standing 2 0 0;
+  job = standing 2 0 0 0;
   counts = up TicksRun (up Releases noCounts);
 }
 

@@ -10,16 +10,17 @@ use Rattle.rules.specs.declared.TaskRecord.{TaskRecord}
 use Rattle.rules.specs.declared.LastJob.{LastJob}
 use Rattle.rules.specs.declared.State.{State}
 
--- The counts of releases, completions, misses, ticks run, ticks blocked, and the worst response: by name,
+-- The counts of releases, completions, misses, ticks run, ticks blocked, the worst response, and the most ticks blocked that any
+-- job had: by name,
 pub data Count : Type 0 where
-  Releases Completions Misses TicksRun TicksBlocked WorstResponse : Count
+  Releases Completions Misses TicksRun TicksBlocked WorstResponse MostBlocked : Count
 
 abbrev pub everyCount : List Count
-everyCount = Releases ∷ Completions ∷ Misses ∷ TicksRun ∷ TicksBlocked ∷ WorstResponse ∷ []
+everyCount = Releases ∷ Completions ∷ Misses ∷ TicksRun ∷ TicksBlocked ∷ WorstResponse ∷ MostBlocked ∷ []
 
 -- by the place in that row,
 abbrev pub placeOf : Count → ℕ
-placeOf = elim [ Releases ↦ 0 | Completions ↦ 1 | Misses ↦ 2 | TicksRun ↦ 3 | TicksBlocked ↦ 4 | WorstResponse ↦ 5 ]
+placeOf = elim [ Releases ↦ 0 | Completions ↦ 1 | Misses ↦ 2 | TicksRun ↦ 3 | TicksBlocked ↦ 4 | WorstResponse ↦ 5 | MostBlocked ↦ 6 ]
 
 -- and as they stand in the record: the count of a name, and the counts that have a value for each name.
 abbrev pub count : Count → Counts → ℕ
@@ -29,6 +30,7 @@ count Misses c = c .misses
 count TicksRun c = c .ran
 count TicksBlocked c = c .blocked
 count WorstResponse c = c .worst
+count MostBlocked c = c .most
 
 abbrev pub counts : (Count → ℕ) → Counts
 counts f = record {
@@ -38,6 +40,7 @@ counts f = record {
   ran = f TicksRun;
   blocked = f TicksBlocked;
   worst = f WorstResponse;
+  most = f MostBlocked;
 }
 
 -- All of them as a row.
@@ -51,19 +54,23 @@ withCount k value c = counts λ j. if placeOf j =? placeOf k then value else cou
 abbrev pub up : Count → Counts → Counts
 up k c = withCount k (count k c + 1) c
 
--- A job that stands at a step with so many ticks left of it; one that moves on, which keeps the rest; and none.
-abbrev pub standing : (position left release : ℕ) → Job
-standing position left release = record { pending = true; position = position; left = left; release = release }
+-- A job that stands at a step with so many ticks left of it, its release tick and its ticks blocked; one that moves on and one
+-- that is blocked for a tick, which keep the rest; and none.
+abbrev pub standing : (position left release present : ℕ) → Job
+standing position left release present = record { pending = true; position = position; left = left; release = release; present = present }
 
 abbrev pub movedTo : (position left : ℕ) → Job → Job
-movedTo position left j = standing position left (j .release)
+movedTo position left j = standing position left (j .release) (j .present)
+
+abbrev pub heldUp : Job → Job
+heldUp j = standing (j .position) (j .left) (j .release) (j .present + 1)
 
 abbrev pub noJob : Job
-noJob = record { pending = false; position = 0; left = 0; release = 0 }
+noJob = record { pending = false; position = 0; left = 0; release = 0; present = 0 }
 
 -- The numbers of a job as a row.
 unfoldable pub place : Job → List ℕ
-place j = j .position ∷ j .left ∷ j .release ∷ []
+place j = j .position ∷ j .left ∷ j .release ∷ j .present ∷ []
 
 -- The record of a task: with another job, with other counts, and one that is zero.
 abbrev pub withJob : Job → TaskRecord → TaskRecord

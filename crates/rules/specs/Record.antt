@@ -30,7 +30,7 @@ carries task j s = j .pending && among s (held (behind task j))
 unfoldable pub holds : Sheet → List TaskRecord → (i s : ℕ) → Bool
 holds sheet records i s = carries (taskAt sheet i) (recordAt records i .job) s
 
--- every count and worst response is at most t;
+-- every count and worst response is at most t, and so is the most blocked;
 unfoldable pub countsFit : (t : ℕ) → Counts → Bool
 countsFit t c = all (λ x. x ≤? t) (counted c)
 
@@ -45,14 +45,20 @@ standsWell (run n ∷ steps) left = within 1 n left
 standsWell (lock s ∷ steps) left = left =? 0
 standsWell (unlock s ∷ steps) left = false
 
--- a task not pending has position, left and release tick zero; a pending one has a release tick below t, and stands well;
+-- a task not pending has position, left, release tick and ticks blocked zero; a pending one has a release tick below t, and
+-- stands well;
 unfoldable pub jobFits : (t : ℕ) → Task → Job → Bool
 jobFits t task j = if j .pending then j .release <? t && standsWell (ahead task j) (j .left) else zeros (place j)
+
+-- the blocked ticks of the present job are not above t, nor above the most that any job had (which is a count: not above t);
+unfoldable pub presentFits : (t : ℕ) → TaskRecord → Bool
+presentFits t r = r .job .present ≤? t && r .job .present ≤? r .counts .most
 
 -- records at n and above are zero;
 unfoldable pub recordFits : Sheet → (t i : ℕ) → TaskRecord → Bool
 recordFits sheet t i r =
     countsFit t (r .counts)
+    && presentFits t r
     && jobFits t (taskAt sheet i) (r .job)
     && (length (sheet .tasks) ≤? i ⇒ zeroRecord r)
 

@@ -5,7 +5,7 @@ use mathlib.Core.Bool.{Bool, not, _&&_}
 use lib.ListN.{length, drop}
 use Rattle.rules.specs.Words.{if_then_else_, _<?_, _≤?_, _=?_, row, leading}
 use Rattle.rules.specs.Sheet.{Task, Sheet, taskAt, isLock, isUnlock}
-use Rattle.rules.specs.Fields.{Releases, Completions, Misses, TicksRun, TicksBlocked, WorstResponse, withCount, up, standing, movedTo, noJob, withJob, withCounts, lastJob, sameJob}
+use Rattle.rules.specs.Fields.{Releases, Completions, Misses, TicksRun, TicksBlocked, WorstResponse, MostBlocked, withCount, up, standing, movedTo, heldUp, noJob, withJob, withCounts, lastJob, sameJob}
 use Rattle.rules.specs.Record.{recordAt, ahead}
 use Rattle.rules.specs.Choice.{Runner, job, stuck, idle, full, runner}
 use Rattle.rules.specs.declared.Job.{Job}
@@ -19,12 +19,12 @@ unfoldable pub releasesAt : (t : ℕ) → Task → Bool
 releasesAt t task = task .offset ≤? t && (t - task .offset) % task .period =? 0
 
 -- Its releases rise by one. If it is pending, misses rise by one and no job starts.
--- Otherwise a job starts at step 0, released at t, with ticks left as in rule 5.
+-- Otherwise a job starts at step 0, released at t, with ticks left as in rule 5, and not blocked yet.
 unfoldable pub released : (t : ℕ) → Task → TaskRecord → TaskRecord
 released t task r =
     if not (releasesAt t task) then r else
     if r .job .pending then withCounts (up Misses (up Releases (r .counts))) r else
-    record { job = standing 0 (full (task .steps)) t; counts = up Releases (r .counts) }
+    record { job = standing 0 (full (task .steps)) t 0; counts = up Releases (r .counts) }
 
 unfoldable pub afterReleases : Sheet → State → List TaskRecord
 afterReleases sheet st = row 16 λ i.
@@ -47,7 +47,8 @@ behindUnlocks task j = nextRun task j + 1 + leading isUnlock (drop (nextRun task
 abbrev pub completed : (response : ℕ) → Counts → Counts
 completed response c = withCount WorstResponse (max (c .worst) response) (up Completions c)
 
--- the response is t + 1 minus its release tick, and the task is no longer pending, with position, left and release tick zero.
+-- the response is t + 1 minus its release tick, and the task is no longer pending, with position, left and release tick zero,
+-- and nothing blocked.
 -- Otherwise it stands at its next step, with a run's full length left or, at a lock, 0.
 unfoldable pub advanced : (t : ℕ) → Task → TaskRecord → TaskRecord
 advanced t task r =
@@ -57,12 +58,19 @@ advanced t task r =
     if next <? length (task .steps) then withJob (movedTo next (full (drop next (task .steps))) j) r else
     record { job = noJob; counts = completed (t + 1 - j .release) (r .counts) }
 
--- 6. Its ticks run rise by one. Each pending job of smaller rank than a running job is blocked for this tick.
+-- 6. A job is blocked for a tick: the task's ticks blocked and those of its present job rise by one, and the most that any job
+-- had is the larger of itself and the present one.
+abbrev pub wasBlocked : TaskRecord → TaskRecord
+wasBlocked r =
+    let present = r .job .present + 1 in
+    record { job = heldUp (r .job); counts = withCount MostBlocked (max (r .counts .most) present) (up TicksBlocked (r .counts)) }
+
+-- Its ticks run rise by one. Each pending job of smaller rank than a running job is blocked for this tick.
 unfoldable pub spent : Runner → (t i : ℕ) → Task → TaskRecord → TaskRecord
 spent (job x) t i task r =
     let ran = advanced t task r in
     if i =? x then withCounts (up TicksRun (ran .counts)) ran else
-    if i <? x && r .job .pending then withCounts (up TicksBlocked (r .counts)) r else r
+    if i <? x && r .job .pending then wasBlocked r else r
 spent stuck t i task r = r
 spent idle t i task r = r
 

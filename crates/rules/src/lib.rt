@@ -1,15 +1,16 @@
 // The public types of the simulator. What they mean stands in specs/, which follows document 01.
 
-// The job of a task, all zero where none is pending: the index of its next step, the ticks left of that step, and the tick
-// of its release.
+// The job of a task, all zero where none is pending: the index of its next step, the ticks left of that step, the tick of its
+// release, and its ticks blocked.
 pub struct Job {
     pub pending: bool,
     pub position: u8,
     pub left: u16,
     pub release: u16,
+    pub present: u16,
 }
 
-// What a run counts for a task, with the worst response.
+// What a run counts for a task, with the worst response and the most ticks blocked that any job had.
 pub struct Counts {
     pub releases: u16,
     pub completions: u16,
@@ -17,6 +18,7 @@ pub struct Counts {
     pub ran: u16,
     pub blocked: u16,
     pub worst: u16,
+    pub most: u16,
 }
 
 // One task in the record of a run.

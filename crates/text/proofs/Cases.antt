@@ -3,11 +3,11 @@ use mathlib.Core.Path.{refl}
 use mathlib.Core.List.{flatMap}
 use Rattle.rules.proofs.Open.{rules}
 use Rattle.words.specs.Words.{digits, decimal, numbered, signedDecimal, givenBy, tickWord}
-use Rattle.text.specs.Text.{headLine, jobs, times, analysis, taskLine, taskLines, traceLine, report, refusalLine, printedRun, printed}
+use Rattle.text.specs.Text.{headLine, jobs, times, analysis, most, taskLine, taskLines, traceLine, report, refusalLine, printedRun, printed}
 use Rattle.text.specs.Laws.{PrintedA, PrintedF, PrintedB, PrintedNothing, PrintedCut}
 
 unfoldable form : Unit {0}
-unfolding rules flatMap digits decimal numbered headLine jobs times signedDecimal analysis givenBy taskLine taskLines tickWord traceLine report refusalLine printedRun printed
+unfolding rules flatMap digits decimal numbered headLine jobs times signedDecimal analysis most givenBy taskLine taskLines tickWord traceLine report refusalLine printedRun printed
 form = tt
 
 pub printed-A : PrintedA

@@ -25,7 +25,7 @@ analysisRoom = 2 * fieldRoom
 
 -- The parts of a task line, as they stand in it.
 abbrev pub taskLineRoom : ℕ
-taskLineRoom = numberRoom + jobsRoom + timesRoom + analysisRoom + givenByRoom + 1
+taskLineRoom = numberRoom + jobsRoom + timesRoom + analysisRoom + fieldRoom + givenByRoom + 1
 
 abbrev pub traceLineRoom : (h : ℕ) → ℕ
 traceLineRoom h = tickRoom * h + lineRoom 1

@@ -10,25 +10,25 @@ use Rattle.text.specs.Text.{printed}
 abbrev pub PrintedA : Type 0
 PrintedA = printed (0 ∷ 10 ∷ A .sheet) ≡
     ascii "ticks 10 switches 5\n"
-    ++ ascii "0 releases 1 done 1 missed 0 ran 2 blocked 2 worst 4 bound 3 laxity 5 by 1/1\n"
-    ++ ascii "1 releases 1 done 1 missed 0 ran 5 blocked 0 worst 7 bound 0 laxity 11 by -\n"
+    ++ ascii "0 releases 1 done 1 missed 0 ran 2 blocked 2 worst 4 bound 3 laxity 5 most 2 by 1/1\n"
+    ++ ascii "1 releases 1 done 1 missed 0 ran 5 blocked 0 worst 7 bound 0 laxity 11 most 0 by -\n"
     ++ ascii "trace 1 1 0 1 1 0 1 - - -\n"
 
 abbrev pub PrintedF : Type 0
 PrintedF = printed (0 ∷ 0 ∷ F .sheet) ≡
     ascii "ticks 0 switches 0\n"
-    ++ ascii "0 releases 0 done 0 missed 0 ran 0 blocked 0 worst 0 bound 3 laxity 5 by 1/1\n"
-    ++ ascii "1 releases 0 done 0 missed 0 ran 0 blocked 0 worst 0 bound 0 laxity 11 by -\n"
+    ++ ascii "0 releases 0 done 0 missed 0 ran 0 blocked 0 worst 0 bound 3 laxity 5 most 0 by 1/1\n"
+    ++ ascii "1 releases 0 done 0 missed 0 ran 0 blocked 0 worst 0 bound 0 laxity 11 most 0 by -\n"
     ++ ascii "trace\n"
 
 -- B, of which document 01 gives the bounds and laxities, one of them negative.
 abbrev pub PrintedB : Type 0
 PrintedB = printed (0 ∷ 0 ∷ B .sheet) ≡
     ascii "ticks 0 switches 0\n"
-    ++ ascii "0 releases 0 done 0 missed 0 ran 0 blocked 0 worst 0 bound 0 laxity 6 by -\n"
-    ++ ascii "1 releases 0 done 0 missed 0 ran 0 blocked 0 worst 0 bound 4 laxity -1 by 3/1\n"
-    ++ ascii "2 releases 0 done 0 missed 0 ran 0 blocked 0 worst 0 bound 4 laxity 2 by 3/1\n"
-    ++ ascii "3 releases 0 done 0 missed 0 ran 0 blocked 0 worst 0 bound 0 laxity 8 by -\n"
+    ++ ascii "0 releases 0 done 0 missed 0 ran 0 blocked 0 worst 0 bound 0 laxity 6 most 0 by -\n"
+    ++ ascii "1 releases 0 done 0 missed 0 ran 0 blocked 0 worst 0 bound 4 laxity -1 most 0 by 3/1\n"
+    ++ ascii "2 releases 0 done 0 missed 0 ran 0 blocked 0 worst 0 bound 4 laxity 2 most 0 by 3/1\n"
+    ++ ascii "3 releases 0 done 0 missed 0 ran 0 blocked 0 worst 0 bound 0 laxity 8 most 0 by -\n"
     ++ ascii "trace\n"
 
 -- Input under two bytes is refusal 1; a sheet whose last byte is cut off is refusal 7, for the last task.

@@ -30,9 +30,13 @@ times c = field " ran " (c .ran) ++ field " blocked " (c .blocked) ++ field " wo
 unfoldable pub analysis : Bound → Laxity → List ℕ
 analysis bound laxity = field " bound " (bound .ticks) ++ ascii " laxity " ++ signedDecimal laxity
 
+-- the most ticks blocked that any job had, to be held against the bound.
+unfoldable pub most : Counts → List ℕ
+most c = field " most " (c .most)
+
 -- One line per rank, first field the rank.
 unfoldable pub taskLine : (i : ℕ) → Counts → Bound → Laxity → List ℕ
-taskLine i c bound laxity = decimal i ++ jobs c ++ times c ++ analysis bound laxity ++ givenBy (bound .by) ++ ascii "\n"
+taskLine i c bound laxity = decimal i ++ jobs c ++ times c ++ analysis bound laxity ++ most c ++ givenBy (bound .by) ++ ascii "\n"
 
 unfoldable pub taskLines : (n : ℕ) → State → (bounds : ℕ → Bound) (laxities : ℕ → Laxity) → List ℕ
 taskLines n st bounds laxities = flatMap (λ i. taskLine i (recordAt (st .tasks) i .counts) (bounds i) (laxities i)) (row n λ i. i)

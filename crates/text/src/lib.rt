@@ -16,9 +16,9 @@ use words::put_text;
 ghost use Prim.Native.Nat.{_+_, _*_, _≤_};
 ghost use mathlib.Core.Path.{_≡_};
 ghost use lib.ListN.{length, take};
-ghost use Rattle.words.specs.Buffer.{Put};
+ghost use Rattle.words.specs.Buffer.{Put, fieldRoom};
 ghost use Rattle.text.specs.Buffer.{boundAt, laxityAt, headLineRoom, jobsRoom, timesRoom, analysisRoom, taskLineRoom, traceLineRoom, reportRoom, refusalLineRoom};
-ghost use Rattle.text.specs.Text.{headLine, jobs, times, analysis, taskLine, taskLines, traceLine, report, refusalLine};
+ghost use Rattle.text.specs.Text.{headLine, jobs, times, analysis, most, taskLine, taskLines, traceLine, report, refusalLine};
 
 fn put_head_line(out: &mut [u8], at: usize, ticks: u16, switches: u16) -> usize
     requires { ⌜ at + headLineRoom ≤ length (now out) ⌝ }
@@ -60,6 +60,15 @@ fn put_analysis(out: &mut [u8], at: usize, bound: Bound, laxity: Laxity) -> usiz
     put_laxity(out, next, laxity)
 }
 
+// The most ticks blocked that any job had.
+fn put_most(out: &mut [u8], at: usize, c: Counts) -> usize
+    requires { ⌜ at + fieldRoom ≤ length (now out) ⌝ }
+    ensures { λ r. ⌜ Put (now (out .entry)) at (most c) (now (out .exit)) r ⌝ }
+    ensures { λ r. ⌜ r ≤ at + fieldRoom ⌝ }
+{
+    put_field(out, at, b" most ", c.most)
+}
+
 fn put_task_line(
     out: &mut [u8],
     at: usize,
@@ -76,6 +85,7 @@ fn put_task_line(
     let next = put_jobs(out, next, c);
     let next = put_times(out, next, c);
     let next = put_analysis(out, next, bound, laxity);
+    let next = put_most(out, next, c);
     let by = bound.by;
     let next = put_given_by(out, next, by);
     put_byte(out, next, b'\n')

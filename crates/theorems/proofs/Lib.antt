@@ -7,4 +7,5 @@ pub mod Totals
 pub mod Needed
 pub mod Shams
 pub mod Switches
+pub mod Blocked
 pub mod Analysis

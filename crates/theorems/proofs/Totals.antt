@@ -9,10 +9,10 @@ use lib.ListN.{length, getD, replicate}
 use borrow.Author.Tests.{eqb-true, lt-ltb, le-ltb}
 use Rattle.rules.specs.Words.{if_then_else_, _<?_, _=?_, total}
 use Rattle.rules.specs.Sheet.{Task, Sheet, taskAt}
-use Rattle.rules.specs.Fields.{TicksRun, TicksBlocked, up, blank, sameJob, start}
+use Rattle.rules.specs.Fields.{TicksRun, up, blank, sameJob, start}
 use Rattle.rules.specs.Record.{recordAt}
 use Rattle.rules.specs.Choice.{Runner, job, stuck, idle, runnerByte, runner}
-use Rattle.rules.specs.Tick.{released, afterReleases, advanced, spent, afterRunner, jobOf, ranLast, closed, runnerOf, tick}
+use Rattle.rules.specs.Tick.{released, afterReleases, advanced, wasBlocked, spent, afterRunner, jobOf, ranLast, closed, runnerOf, tick}
 use Rattle.rules.specs.Run.{after}
 use Rattle.rules.specs.declared.TaskRecord.{TaskRecord}
 use Rattle.rules.specs.declared.LastJob.{LastJob}
@@ -39,7 +39,7 @@ advanced-blocked t task r = advanced-cases (λ x. blocked x ≡ blocked r) t tas
 
 -- rule 6 lets it rise by one where the job is blocked
 job-blocked : (low same under waits : Bool) (ran r : TaskRecord) → low ≡ true → (same ≡ true → under ≡ false) → blocked ran ≡ blocked r
-    → blocked (if same then record { job = ran .job; counts = up TicksRun (ran .counts) } else if under && waits then record { job = r .job; counts = up TicksBlocked (r .counts) } else r)
+    → blocked (if same then record { job = ran .job; counts = up TicksRun (ran .counts) } else if under && waits then wasBlocked r else r)
     ≡ blocked r + one (low && under && waits)
 job-blocked false same under waits ran r l h e = true-false false l refl
 job-blocked true true false waits ran r l h e = e ∙ sym (add-zero (blocked r))

@@ -5,4 +5,5 @@ pub mod NoFreedom
 pub mod Runs
 pub mod Shams
 pub mod Switches
+pub mod Blocked
 pub mod Needed

@@ -35,21 +35,19 @@ fn job_at(s: &[u8], at: usize) -> Job
     let position = byte_at(s, at + 1);
     let left = word_at(s, at + 2);
     let release = word_at(s, at + 4);
-    Job {
-        pending: pending,
-        position: position,
-        left: left,
-        release: release,
-    }
+    let present = word_at(s, at + 6);
+    let mut j = record::standing(position, left, release, present);
+    j.pending = pending;
+    j
 }
 
 // The counts stand in the order of their row.
 fn counts_at(s: &[u8], at: usize) -> Counts
     requires { ⌜ at < 90000 ⌝ }
 {
-    let mut row: [u16; 6] = [0; 6];
+    let mut row: [u16; 7] = [0; 7];
     let mut k: usize = 0;
-    while k < 6 {
+    while k < 7 {
         row[k] = word_at(s, at + 2 * k);
         k += 1;
     }
@@ -60,7 +58,7 @@ fn record_at(s: &[u8], at: usize) -> TaskRecord
     requires { ⌜ at < 80000 ⌝ }
 {
     let job = job_at(s, at);
-    let counts = counts_at(s, at + 6);
+    let counts = counts_at(s, at + 8);
     TaskRecord {
         job: job,
         counts: counts,
@@ -86,7 +84,7 @@ pub fn state_at(s: &[u8], at: usize) -> State
     let mut tasks = [first; 16];
     let mut i: usize = 1;
     while i < 16 {
-        let r = record_at(s, at + 7 + 18 * i);
+        let r = record_at(s, at + 7 + 22 * i);
         tasks[i] = r;
         i += 1;
     }
@@ -142,6 +140,7 @@ fn print_job(j: Job) {
     print(b" position ", j.position as u64);
     print(b" left ", j.left as u64);
     print(b" release ", j.release as u64);
+    print(b" present ", j.present as u64);
 }
 
 fn print_counts(c: Counts) {
@@ -151,6 +150,7 @@ fn print_counts(c: Counts) {
     print(b" ran ", c.ran as u64);
     print(b" blocked ", c.blocked as u64);
     print(b" worst ", c.worst as u64);
+    print(b" most ", c.most as u64);
 }
 
 fn print_last(j: LastJob) {

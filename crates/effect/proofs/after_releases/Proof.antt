@@ -53,7 +53,7 @@ released-requires c κs =
     let few = b .pre .0 .few in
     let here = releases-here (now (b .args .s)) (b .args .t2) (b .args .st) (l .next) (l .i) (l .inv .1) few (omega arith) in (
       lies-from (now (b .args .s)) (b .args .t2) (l .i) _ (b .pre .0) (entry-in (b .args .t2) (l .i) (omega arith)),
-      (rw here (b .pre .1 (l .i) (omega arith)), sym (c .before .before .releases-at .ensures (now (b .args .s))) ∙ c .before .if1 .taken),
+      (rw here (b .pre .1 (l .i) (omega arith) .0), sym (c .before .before .releases-at .ensures (now (b .args .s))) ∙ c .before .if1 .taken),
     )
 
 mul-q : tie.Need-mul-q Inv-loop μ-loop

@@ -32,7 +32,7 @@ ran-requires c κs =
     let above = c .before .blocked-above in
     let entry = c .before .before .entry-at in
     let here = blocked-here (b .args .st) (above .result) (b .args .x) (above .ensures) (c .before .before .before .if1 .left) in
-    (lies-from (now (b .args .s)) (b .args .table) (b .args .x) (entry .result) (b .pre .0) (entry .ensures), (rw here (b .pre .1 .0 (b .args .x) (c .before .before .before .if1 .left)), b .pre .1 .1))
+    (lies-from (now (b .args .s)) (b .args .table) (b .args .x) (entry .result) (b .pre .0) (entry .ensures), (rw here (b .pre .1 .0 (b .args .x) (c .before .before .before .if1 .left) .0), b .pre .1 .1))
 
 mul-q : tie.Need-mul-q
 mul-q c = search needs

@@ -1,6 +1,6 @@
 -- Rank by rank below the runner's, a pending job is blocked once and another record stays.
 use Prim.Native.Nat.{ℕ, _≤_, _-_}
-use mathlib.Core.Path.{_≡_, _∙_, ap}
+use mathlib.Core.Path.{_≡_, _∙_, sym, ap}
 use mathlib.Core.Logic.{⊎-elim}
 use native.Mathlib.Omega.{arith}
 use Rattle.rules.specs.Record.{recordAt}
@@ -26,18 +26,19 @@ mul-r c = omega arith
 element-copy-out-r : tie.Need-element-copy-out-r Inv-loop μ-loop
 element-copy-out-r c = omega arith
 
-blocked-up-requires : tie.Need-blocked-up-requires Inv-loop μ-loop
+was-blocked-requires : tie.Need-was-blocked-requires Inv-loop μ-loop
 unfolding recordAt
-blocked-up-requires c κs =
+was-blocked-requires c κs =
     let b = c .before .before .before .before .before in
     let l = c .before .before .before .before .loop in
-    rw (blocked-here (b .args .st) (l .next) (l .i) (l .inv .1) (omega arith)) (b .pre .1 (l .i) (omega arith) TicksBlocked)
+    let room = b .pre .1 (l .i) (omega arith) in
+    rw (blocked-here (b .args .st) (l .next) (l .i) (l .inv .1) (omega arith)) (room .0 TicksBlocked, room .1)
 
-mul-t14 : tie.Need-mul-t14 Inv-loop μ-loop
-mul-t14 c = omega arith
+mul-q : tie.Need-mul-q Inv-loop μ-loop
+mul-q c = omega arith
 
-element-set-from-next : tie.Need-element-set-from-next Inv-loop μ-loop
-element-set-from-next c = omega arith
+element-set-from-q : tie.Need-element-set-from-q Inv-loop μ-loop
+element-set-from-q c = omega arith
 
 add-i : tie.Need-add-i Inv-loop μ-loop
 add-i c = omega arith
@@ -52,7 +53,7 @@ loop-again c =
     let l = c .before .before .before .before .loop in (
       omega arith,
       ⊎-elim
-          (λ w. w .2 ∙ blocked-more (b .args .st) (l .next) (l .i) (l .inv .1) (omega arith) _ (blocked-yes (recordAt (l .next .tasks) (l .i)) (w .0 .taken) (w .1 .result) (w .1 .ensures)))
+          (λ w. w .2 ∙ blocked-more (b .args .st) (l .next) (l .i) (l .inv .1) (omega arith) (w .1 .result) (w .1 .ensures ∙ sym (blocked-yes (recordAt (l .next .tasks) (l .i)) (w .0 .taken))))
           (λ w. w .1 ∙ blocked-no (b .args .st) (l .next) (l .i) (l .inv .1) (omega arith) (w .0 .left))
           (c .if1 .came),
     )
@@ -72,9 +73,9 @@ blocked-above-spec =
     loop-holds
     mul-r
     element-copy-out-r
-    blocked-up-requires
-    mul-t14
-    element-set-from-next
+    was-blocked-requires
+    mul-q
+    element-set-from-q
     add-i
     loop-less
     loop-again

@@ -1,4 +1,4 @@
--- The rank, its three groups of fields, what gives the bound and a line end, one behind another, in their room.
+-- The rank, its three groups of fields, the most blocked, what gives the bound and a line end, one behind another, in their room.
 use borrow.Author.Needs.{needs}
 use native.Mathlib.Omega.{arith}
 use Rattle.text.specs.Text.{taskLine}
@@ -18,6 +18,9 @@ put-times-requires c κs = omega arith
 put-analysis-requires : tie.Need-put-analysis-requires
 put-analysis-requires c κs = omega arith
 
+put-most-requires : tie.Need-put-most-requires
+put-most-requires c κs = omega arith
+
 put-given-by-requires : tie.Need-put-given-by-requires
 put-given-by-requires c κs = omega arith
 
@@ -32,11 +35,12 @@ unfolding taskLine
 returns c =
     let line = c .before .before in
     let given = line .before .before .before .before in
-    let analysed = given .before .before .before .before in
+    let atMost = given .before .before .before .before in
+    let analysed = atMost .before .before .before .before in
     let timed = analysed .before .before .before .before in
     let counted = timed .before .before .before .before in
     let ranked = counted .before .before .before .before in (
-      put-more (put-more (put-more (put-more (put-more (ranked .put-number .ensures .0) (counted .put-jobs .ensures .0)) (timed .put-times .ensures .0)) (analysed .put-analysis .ensures .0)) (given .put-given-by .ensures .0)) (line .put-byte .ensures),
+      put-more (put-more (put-more (put-more (put-more (put-more (ranked .put-number .ensures .0) (counted .put-jobs .ensures .0)) (timed .put-times .ensures .0)) (analysed .put-analysis .ensures .0)) (atMost .put-most .ensures .0)) (given .put-given-by .ensures .0)) (line .put-byte .ensures),
       omega arith,
     )
 
@@ -48,6 +52,7 @@ put-task-line-spec =
     put-jobs-requires
     put-times-requires
     put-analysis-requires
+    put-most-requires
     put-given-by-requires
     put-byte-requires
     same-length
