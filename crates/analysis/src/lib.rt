@@ -1,5 +1,7 @@
 // The laxities of a sheet's tasks, proved equal to rules/specs/Bounds.antt.
 // The laxities are made of three arrays by value (C, periods, bounds), so that one of them can be another than the sheet's.
+#![tactic(auto)]
+
 ghost use Rattle.std.specs.Prelude.{◌≡◌, ◌+◌, ◌<◌, ◌≤◌, get_or};
 ghost use Rattle.rules.specs.Words.{row};
 ghost use Rattle.rules.specs.Choice.{ceiling};

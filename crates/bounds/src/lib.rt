@@ -1,4 +1,6 @@
 // C, the sections and the bounds of a sheet's tasks, proved equal to rules/specs/Bounds.antt.
+#![tactic(auto)]
+
 ghost use Rattle.std.specs.Prelude.{◌≡◌, ◌+◌, ◌<◌, max, drop};
 ghost use Rattle.rules.specs.Words.{row, largest};
 ghost use Rattle.rules.specs.Sheet.{task_at};

@@ -2,6 +2,8 @@
 // lent, and the sheet's length (16 bits each, big-endian), and the sheet; what is missing is zero. The buffer is marked, and
 // what stands in it afterwards is printed too. workbench/README.md has the format, and what is printed.
 // A further call is a function that prints its answer and a line in `ask`. The two forms of the tick are asked by `one_tick`.
+#![tactic(auto)]
+
 ghost use Rattle.std.specs.Prelude.{◌≤◌, ◌≡◌, length};
 
 use rules::{Bound, Laxity};

@@ -3,7 +3,7 @@ use Prim.Native.Nat.{ℕ, ◌+◌, ◌-◌, ◌≤◌, ◌<◌}
 use mathlib.Core.Path.{◌≡◌, refl, sym, ap, ◌∙◌}
 use mathlib.Core.Logic.{⊎_elim}
 use mathlib.Core.List.{List}
-use mathlib.Core.Bool.{Bool, true, false, not, ◌&&◌, ◌||◌, or_false}
+use mathlib.Core.Bool.{Bool, true, false, not, ◌&&◌, ◌||◌, or-false}
 use native.Mathlib.Omega.{arith}
 use lib.ListN.{take, drop}
 use lib.Seq.{take_all, drop-drop}
@@ -60,7 +60,7 @@ module _ (mode : ℕ) (task : Task) (j : Job) where
   module _ (x : Here) (e : x ≡ here (drop j.position task.steps)) (run : Bool) (er : run ≡ here_is is_run x) where
     stands : at_run task j ≡ run
     unfolding at_run ahead any
-    stands = any_first is_run 0 (drop j.position task.steps) ∙ or_false _ ∙ ap (here_is is_run) (sym e) ∙ sym er
+    stands = any_first is_run 0 (drop j.position task.steps) ∙ or-false _ ∙ ap (here_is is_run) (sym e) ∙ sym er
 
     pub goes_no_run : not run ≡ true → false ≡ goes mode task j false
     goes_no_run h = sym (barred_goes ∙ and_no (not (mode =? 1 && fresh task j && any is_lock task.steps)) (at_run task j) (stands ∙ not-true run h))

@@ -1,4 +1,6 @@
 // The choice of the runner: rules 2 to 4 of document 01.
+#![tactic(auto)]
+
 ghost use Rattle.std.specs.Prelude.{◌≡◌, [], false, ℕ, ◌≤◌, ◌<◌, take};
 ghost use Rattle.rules.specs.Words.{◌<?◌, row, any};
 ghost use Rattle.rules.specs.Record.{record_at};
@@ -14,7 +16,7 @@ use rules::{Job, State};
 use table::{Entry, Kind, Table, entry_at, is_of, step_at, ticks_of};
 
 // The semaphore in a job's way: its ceiling and its holder, 255 where there is none.
-#[derive(Drop)]
+#[derive(Clone, Copy)]
 pub struct Way {
     pub ceiling: u8,
     pub holder: u8,

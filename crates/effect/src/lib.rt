@@ -1,5 +1,7 @@
 // What a tick does apart from the choice of the runner: the releases (rule 1), the runner's tick (rules 5 and 6) and the
 // tick's end (rule 7). Each contract names the definition of rules/specs/Tick.antt that the function is equal to.
+#![tactic(auto)]
+
 ghost use Rattle.std.specs.Prelude.{◌≡◌, List, true, ℕ, ◌+◌, ◌-◌, ◌<◌, ◌≤◌, drop};
 ghost use Rattle.rules.specs.Words.{if◌then◌else◌, leading};
 ghost use Rattle.rules.specs.Choice.{full, job};

@@ -1,4 +1,6 @@
 // One tick of a possible state, and a whole run from the start.
+#![tactic(auto)]
+
 ghost use Rattle.std.specs.Prelude.{◌≡◌, true, ◌<◌, ◌≤◌, length};
 ghost use Rattle.rules.specs.Words.{row};
 ghost use Rattle.rules.specs.Fields.{start};
@@ -12,7 +14,7 @@ use rules::State;
 use table::Table;
 
 // What one tick gives: who ran, and the next state.
-#[derive(Drop)]
+#[derive(Clone, Copy)]
 pub struct OneTick {
     pub runner: u8,
     pub state: State,

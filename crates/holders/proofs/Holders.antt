@@ -3,7 +3,7 @@ use Prim.Native.Nat.{ℕ, zero, suc, ◌+◌, ◌≤◌, ◌<◌}
 use mathlib.Core.Path.{◌≡◌, refl, sym, ap, ap₂, ◌∙◌}
 use mathlib.Core.Logic.{◌⊎◌, inl, inr, ⊎_elim}
 use mathlib.Core.List.{List, [], ◌∷◌}
-use mathlib.Core.Bool.{Bool, true, false, ◌||◌, or_false}
+use mathlib.Core.Bool.{Bool, true, false, ◌||◌, or-false}
 use native.Mathlib.Omega.{arith}
 use native.Mathlib.Numerals.{add-one}
 use lib.ListN.{length, get_or, set, replicate, length-set, get_or-eq_default}
@@ -213,7 +213,7 @@ module _ (bytes : List ℕ) (table : Table) (i : ℕ) (cs : List ℕ) (inv : cs 
       let task : task_of bytes (get_or table.entries i no_entry) ≡ task_at sheet i = ap (task_of bytes) (entry_in_lem table i l) ∙ sym (task_at_lem bytes table i) in
       e ∙ ap₂ (λ (t : Task) (cs : List ℕ). after_steps i (only_locks t.steps) cs) task inv
       ∙ stepped (has_lock sheet) i (omega arith) [] (only_locks (task_at sheet i).steps)
-      ∙ rank_more (has_lock sheet) i (held (only_locks (task_at sheet i).steps)) (λ k. sym (or_false (any (is_lock_of k) (task_at sheet i).steps)) ∙ locked k [] (task_at sheet i).steps)
+      ∙ rank_more (has_lock sheet) i (held (only_locks (task_at sheet i).steps)) (λ k. sym (or-false (any (is_lock_of k) (task_at sheet i).steps)) ∙ locked k [] (task_at sheet i).steps)
 
   pub ceilings_all : table.n ≤ 16 → i ≤ table.n → table.n ≤ i → cs ≡ row 16 (ceiling (sheet_of bytes table))
   unfolding ceiling locks task_at any

@@ -1,4 +1,6 @@
 // Rule 2's arrays of sixteen, one entry per semaphore: who holds it, and its ceiling.
+#![tactic(auto)]
+
 ghost use Rattle.std.specs.Prelude.{◌≡◌, ◌-◌, take, drop};
 ghost use Rattle.rules.specs.Words.{row};
 ghost use Rattle.rules.specs.Choice.{ceiling};

@@ -1,5 +1,7 @@
 // The printing program: a 16-bit big-endian horizon and then a sheet from standard input, and what they print to standard
 // output. What that is stands in specs/Text.antt of crate text.
+#![tactic(auto)]
+
 ghost use Rattle.std.specs.Prelude.{◌≤◌, ◌≡◌, length};
 ghost use Rattle.rules.specs.Reading.{word};
 ghost use Rattle.words.specs.Buffer.{Put};

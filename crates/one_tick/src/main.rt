@@ -2,6 +2,8 @@
 // and for what becomes of a state whose tick is turned away.
 // Standard input: a 16-bit length and a sheet of that length, then a state of 359 bytes, all big-endian; what is missing is
 // zero. workbench/README.md has the format, and what is printed.
+#![tactic(auto)]
+
 use rules::{State, Ticked, Told};
 
 fn in_place(sheet: &[u8], mut st: State) -> Ticked {

@@ -1,5 +1,7 @@
 // Refusal 16: whether a run state is possible for a sheet, decided for any record that is handed in. The functions follow
 // document 01's sentence from its first condition to its last.
+#![tactic(auto)]
+
 ghost use Rattle.std.specs.Prelude.{◌≡◌, ◌<◌, drop};
 ghost use Rattle.rules.specs.Words.{within};
 ghost use Rattle.rules.specs.Record.{last_fits, stands_well, job_fits, present_fits, record_fits, none_held_by_two, possible};

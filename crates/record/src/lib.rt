@@ -1,5 +1,7 @@
 // The record's fields in code, as rules/specs/Fields.antt lists them: the makers, the counts as a row, the tests that look at
 // every field. The other crates name a field only where a rule is about it.
+#![tactic(auto)]
+
 ghost use Rattle.std.specs.Prelude.{◌≡◌, ◌<◌, max, get_or};
 ghost use Rattle.rules.specs.Fields.{Releases, Misses, TicksRun, TicksBlocked, MostBlocked, place_of, counts, counted, with_count, up, standing, moved_to, held_up, no_job, place, blank, zeros, zero_record, last_job, none_yet, same_job, no_state, start};
 ghost use Rattle.rules.specs.Record.{counts_fit};

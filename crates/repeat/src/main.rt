@@ -1,5 +1,7 @@
 // Many whole runs of one sheet, to time them: standard input has a 16-bit repeat count and then what the printing program
 // reads, a 16-bit horizon and a sheet. Prints the switches of all runs together.
+#![tactic(auto)]
+
 ghost use Rattle.std.specs.Prelude.{◌≡◌, length};
 
 // The switches of so many runs of one sheet.

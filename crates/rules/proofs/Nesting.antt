@@ -3,7 +3,7 @@ use Prim.Native.Nat.{ℕ, zero, suc, ◌≤◌, ◌<◌}
 use mathlib.Core.Path.{◌≡◌, refl, sym, ap, ap₂, ◌∙◌, subst}
 use mathlib.Core.Logic.{⊎_elim}
 use mathlib.Core.List.{List, [], ◌∷◌, ◌++◌, reverse-append, append_assoc, append-nil}
-use mathlib.Core.Bool.{Bool, true, false, not, ◌&&◌, ◌||◌, or_false}
+use mathlib.Core.Bool.{Bool, true, false, not, ◌&&◌, ◌||◌, or-false}
 use native.Mathlib.Omega.{arith}
 use lib.ListN.{length, take, drop}
 use borrow.Author.Tests.{eqb-true, eq-eqb, leb-false, le-leb, lt-leb, not-true, not-false}
@@ -33,7 +33,7 @@ held_snoc before (unlock s ∷ steps) more = held_snoc (without s before) steps 
 -- behind one more step, whether that is a lock
 pub after_snoc : (before : List Step) (x : Step) → after_lock (before ++ (x ∷ [])) ≡ is_lock x
 unfolding after_lock any
-after_snoc before x = rw (reverse-append before (x ∷ [])) (or_false (is_lock x))
+after_snoc before x = rw (reverse-append before (x ∷ [])) (or-false (is_lock x))
 
 -- the two tests agree
 placed_nests : (before steps : List Step) → placed before steps ≡ nests (held before) (after_lock before) steps

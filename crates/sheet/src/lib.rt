@@ -1,6 +1,8 @@
 // The reader of task sheets: bytes give a table or a refusal.
 // Each reading step answers a value with the next cursor, or a refusal: specs/Reader.antt says what the answers mean, and
 // what is read stands in the rules.
+#![tactic(auto)]
+
 ghost use Rattle.std.specs.Prelude.{◌≡◌, ◌+◌, ◌≤◌, ◌<◌, length};
 ghost use Rattle.rules.specs.Reading.{read, refusal, byte, marked, head_length, longest_sheet};
 ghost use Rattle.rules.specs.Answers.{why};
@@ -12,28 +14,28 @@ use steps::{Nest, is_known, is_misplaced, nested, within};
 use table::{Entry, Table};
 
 // The head of a sheet, and the place behind it.
-#[derive(Drop)]
+#[derive(Clone, Copy)]
 pub enum HeadRead {
     Begun(Head, usize),
     NoHead(Refusal),
 }
 
 // A task's entry, and the place behind what was read.
-#[derive(Drop)]
+#[derive(Clone, Copy)]
 pub enum TaskRead {
     Opened(Entry, usize),
     NoTask(Refusal),
 }
 
 // A step's kind and value, and the place behind it.
-#[derive(Drop)]
+#[derive(Clone, Copy)]
 pub enum StepRead {
     Placed(u8, u16, usize),
     NoStep(Refusal),
 }
 
 // Why a sheet is turned away, or its table.
-#[derive(Drop)]
+#[derive(Clone, Copy)]
 pub struct Parsed {
     pub refusal: Refusal,
     pub table: Table,

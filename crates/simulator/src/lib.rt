@@ -1,6 +1,8 @@
 // THE PUBLIC FACE: every call, for any input, with no `requires`. The contract of each is one definition of
 // crates/rules/specs/Promises.antt, which the theorems cite too; a refused call gives its number, rank and step, and leaves
 // what was lent as it was.
+#![tactic(auto)]
+
 ghost use Rattle.std.specs.Prelude.{◌≡◌};
 ghost use Rattle.rules.specs.Reading.{refusal};
 ghost use Rattle.simulator.specs.Refused.{not_ticked, not_run};

@@ -2,7 +2,7 @@
 use Prim.Native.Nat.{ℕ, zero, suc, ◌+◌, ◌-◌, ◌≤◌, ◌<◌}
 use mathlib.Core.Path.{◌≡◌, refl, sym, ap, ap₂, ◌∙◌, subst}
 use mathlib.Core.List.{List, [], ◌∷◌, ◌++◌}
-use mathlib.Core.Bool.{Bool, true, false, not, ◌||◌, or_false}
+use mathlib.Core.Bool.{Bool, true, false, not, ◌||◌, or-false}
 use native.Mathlib.Omega.{arith}
 use native.Mathlib.Numerals.{add-one}
 use lib.ListN.{length, get_or, set, take, length-set, length-append}
@@ -85,7 +85,7 @@ module _ (q : Nest) (kind value : ℕ) where
 
       pub already_held : q.depth < 4 → (b : Bool) → b ≡ among value (opened q) → b ≡ wrong
       unfolding misplaced_in
-      already_held l b e = rw (is_lock_lem, length_opened q, lt-leb 4 q.depth l, or_false (among value (opened q))) e
+      already_held l b e = rw (is_lock_lem, length_opened q, lt-leb 4 q.depth l, or-false (among value (opened q))) e
 
       pub room : wrong ≡ false → q.depth < 4
       unfolding misplaced_in

@@ -1,12 +1,14 @@
 // The tests on a step of a sheet: 11 on the step alone, 12 on where it stands. The sections that are open are kept as the reader
 // goes, in a nest: specs/Nesting.antt.
+#![tactic(auto)]
+
 ghost use Rattle.std.specs.Prelude.{◌≡◌, false, ◌≤◌};
 ghost use Rattle.rules.specs.Words.{within, among};
 ghost use Rattle.rules.specs.Reading.{step_of, known, misplaced_in};
 ghost use Rattle.steps.specs.Nesting.{opened, nest_behind};
 
 // The sections that are open: their semaphores, how many, and whether a lock stands right before.
-#[derive(Drop)]
+#[derive(Clone, Copy)]
 pub struct Nest {
     pub held: [u16; 4],
     pub depth: usize,

@@ -1,12 +1,14 @@
 // The table of a sheet: each task's numbers, and where its steps stand in the sheet's bytes.
 // The tie to document 01's sheet is a function of the bytes and the table: specs/Table.antt.
+#![tactic(auto)]
+
 ghost use Rattle.std.specs.Prelude.{◌≡◌, ◌+◌, ◌<◌, ◌≤◌, length, drop};
 ghost use Rattle.rules.specs.Reading.{word};
 ghost use Rattle.table.specs.Table.{here, entry_of, task_of, Lies};
 ghost use Rattle.table.specs.Steps.{here_is, of_kind, number_of, number_here, ticks_of, semaphore_of};
 
 // A task of the sheet: `count` steps stand from byte `at` on.
-#[derive(Drop)]
+#[derive(Clone, Copy)]
 pub struct Entry {
     pub period: u16,
     pub offset: u16,
@@ -14,7 +16,7 @@ pub struct Entry {
     pub count: u8,
 }
 
-#[derive(Drop)]
+#[derive(Clone, Copy)]
 pub struct Table {
     pub n: u8,
     pub semaphores: u8,
@@ -23,7 +25,7 @@ pub struct Table {
 }
 
 // The first of some steps, or that there is none.
-#[derive(Drop)]
+#[derive(Clone, Copy)]
 pub enum Here {
     Run(u16),
     Lock(u16),
@@ -32,7 +34,7 @@ pub enum Here {
 }
 
 // The kinds of a step.
-#[derive(Drop)]
+#[derive(Clone, Copy)]
 pub enum Kind {
     Run,
     Lock,

@@ -1,6 +1,8 @@
 // The lines of what the printing program prints, put into a buffer that the caller lends. Each function puts a text at a
 // cursor and answers the cursor behind it; what the texts are stands in specs/Text.antt, and the room that they ask for in
 // specs/Buffer.antt.
+#![tactic(auto)]
+
 ghost use Rattle.std.specs.Prelude.{◌+◌, ◌*◌, ◌≤◌, ◌≡◌, length, take};
 ghost use Rattle.words.specs.Buffer.{Put, field_room};
 ghost use Rattle.text.specs.Buffer.{bound_at, laxity_at, head_line_room, jobs_room, times_room, analysis_room, task_line_room, trace_line_room, report_room, refusal_line_room};

@@ -2,6 +2,8 @@
 //     NAME = HEX ;    what `check` answers
 //     NAME ? HEX ;    the bound and the laxity of each task
 // where HEX is any pairs of hexadecimal digits, over several lines where it is long, and '#' before a name starts a comment.
+#![tactic(auto)]
+
 ghost use Rattle.std.specs.Prelude.{◌<◌, ◌≤◌, ◌≡◌, length};
 ghost use Rattle.io.specs.Counts.{IsPrefixLen};
 

@@ -1,5 +1,7 @@
 // What the test programs share: numbers and states read from bytes, and answers written as lines. workbench/README.md has
 // the formats.
+#![tactic(auto)]
+
 ghost use Rattle.std.specs.Prelude.{◌<◌, ◌≤◌, length};
 
 use libc::STDOUT_FILENO;

@@ -1,6 +1,8 @@
 // The words of what the printing program prints: numbers, fields, laxities, what gives a bound, and ticks, put into a buffer
 // that the caller lends. Each function puts a text at a cursor and answers the cursor behind it; what the texts are stands in
 // specs/Words.antt, and the room that they ask for in specs/Buffer.antt.
+#![tactic(auto)]
+
 ghost use Rattle.std.specs.Prelude.{◌+◌, ◌≤◌, ◌<◌, ◌≡◌, [], ◌∷◌, length};
 ghost use Rattle.words.specs.Buffer.{Put, word_room, number_room, field_room, laxity_room, given_by_room, tick_room};
 ghost use Rattle.words.specs.Words.{digit as Words·digit};
