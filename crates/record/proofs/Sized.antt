@@ -1,7 +1,7 @@
 -- A state that a function is handed has sixteen records: the one place that knows where its type says so.
-use mathlib.Core.Path.{◌≡◌, sym, ◌∙◌}
+use mathlib.Core.Path.{◌≡◌}
 use mathlib.Core.List.{[], ◌∷◌}
-use lib.ListN.{length, length-map}
+use lib.ListN.{length}
 use denote.Laws.{Is}
 use denote.Struct.Declared.{row}
 use denote.Struct.Laws.{val}
@@ -10,4 +10,4 @@ use Rattle.rules.specs.contracts.State.{the_type}
 use Rattle.rules.proofs.State.TheLaws.{the_laws}
 
 pub sixteen : (st : State) → Is (row the_type) st (val the_type the_laws st ∷ []) → length st.tasks ≡ 16
-sixteen st good = sym (length-map st.tasks _) ∙ good.1.1.1.1.1.0.1.0.1
+sixteen st good = good.1.1.1.1.1.0.1.0.1

@@ -1,0 +1,8 @@
+-- Completions rise, with the larger response.
+use borrow.Author.Rules.{rules}
+use Rattle.record.proofs.Laws.{completed_with}
+use Rattle.record.proofs.completed.Goals as goal
+
+pub returns : goal.returns
+returns c =
+    search completed_with
