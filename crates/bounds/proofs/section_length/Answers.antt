@@ -1,0 +1,15 @@
+-- At a lock the length behind it counts; where another step or none stands, no section begins.
+use mathlib.Core.Logic.{⊎_elim}
+use mathlib.Core.Bool.{true}
+use native.Mathlib.Omega.{arith}
+use Rattle.bounds.proofs.Bounds.{length_behind, no_section}
+use borrow.Author.Rules.{rules}
+use Rattle.bounds.proofs.section_length.Goals as goal
+
+pub returns-in_default : goal.returns-in_default
+returns-in_default c =
+    (no_section (λ s. true) _ _ c.step_at-h.ensures c.in_default.not-Lock).1
+
+pub returns : goal.returns
+returns c =
+    search length_behind
