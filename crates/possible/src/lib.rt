@@ -14,7 +14,7 @@ use rules::{Job, LastJob, State, TaskRecord};
 use table::{Entry, Kind, Table, entry_at, is_of, step_at, ticks_of};
 
 // the remembered job's rank is below n and its release tick below t, unless the pair is 255 and 0;
-fn last_fits_lem(n: u8, t: u16, j: LastJob) -> bool
+fn last_fits(n: u8, t: u16, j: LastJob) -> bool
     ensures { result ≡ last_fits n t j }
 {
     if record::same_job(j, record::none_yet()) {
