@@ -20,7 +20,7 @@ use Rattle.rules.proofs.Laws.{below, true_false, sure}
 use Rattle.rules.proofs.Open.{rules}
 use Rattle.rules.proofs.Tick.{released_cases, advanced_cases, spent_cases, released_at, past_at, spent_at}
 use Rattle.rules.proofs.Walk.{runner_runs}
-use Rattle.theorems.specs.Blocked.{MostAndTotal, MostAndTotals, BothInA, BlockedTells}
+use Rattle.theorems.specs.Blocked.{MostAndTotals, BothInA, BlockedTells}
 use Rattle.theorems.proofs.Needed.{sheetA, readsA}
 
 -- so many releases before the present job's own
