@@ -6,7 +6,8 @@ use mathlib.Core.List.{List, [], ◌∷◌}
 use mathlib.Core.Bool.{Bool, true, false, not, ◌&&◌, ◌||◌}
 use lib.ListN.{take}
 use borrow.Author.Tests.{ltb-false, le-leb, lt-leb}
-use Rattle.rules.specs.Words.{if◌then◌else◌, ◌<?◌, ◌≤?◌, ◌=?◌, ◌⇒◌, every, any, among}
+use Rattle.std.specs.Prelude.{if◌then◌else◌}
+use Rattle.rules.specs.Words.{◌<?◌, ◌≤?◌, ◌=?◌, ◌⇒◌, every, any, among}
 use Rattle.rules.specs.Sheet.{Step, run, lock, unlock, Task, Sheet, task_at, is_lock, is_lock_of, without, held_on_top, held}
 use Rattle.rules.specs.Record.{record_at, behind, carries, holds}
 use Rattle.rules.specs.Choice.{locks, ceiling, at_run, fresh, goes, held_by_other, free_of_ceilings, may_go, in_the_way, next_candidate}

@@ -6,7 +6,8 @@ use mathlib.Core.Bool.{Bool, true}
 use native.Mathlib.Omega.{arith}
 use lib.ListN.{length, get_or}
 use borrow.Author.Tests.{leb-true, eqb-true, le-leb}
-use Rattle.rules.specs.Words.{if◌then◌else◌, ◌≤?◌, ◌=?◌, all}
+use Rattle.std.specs.Prelude.{if◌then◌else◌}
+use Rattle.rules.specs.Words.{◌≤?◌, ◌=?◌, all}
 use Rattle.rules.specs.Fields.{Count, Releases, Completions, Misses, TicksRun, TicksBlocked, WorstResponse, MostBlocked, every_count, place_of, count, counts, counted, with_count, no_counts, zeros}
 use Rattle.rules.specs.Record.{counts_fit}
 use Rattle.rules.specs.declared.Counts.{Counts}

@@ -7,7 +7,8 @@ use mathlib.Core.Bool.{Bool, true, false, ◌&&◌}
 use native.Mathlib.Omega.{arith}
 use lib.ListN.{length, get_or-replicate}
 use borrow.Author.Tests.{eqb-true}
-use Rattle.rules.specs.Words.{if◌then◌else◌, ◌=?◌, any, among}
+use Rattle.std.specs.Prelude.{if◌then◌else◌}
+use Rattle.rules.specs.Words.{◌=?◌, any, among}
 use Rattle.rules.specs.Sheet.{Task, Sheet, task_at, held_on_top, held}
 use Rattle.rules.specs.Reading.{read, read_sheet}
 use Rattle.rules.specs.Fields.{Count, Releases, Completions, Misses, TicksRun, TicksBlocked, WorstResponse, MostBlocked, count, up, held_up, no_job, blank, same_job, start}

@@ -7,7 +7,8 @@ use native.Mathlib.Omega.{arith}
 use native.Mathlib.Nat.{suc-mul, mul-le-mul_right}
 use lib.ListN.{length, drop, length-drop}
 use borrow.Author.Tests.{ltb-true, not-false}
-use Rattle.rules.specs.Words.{if◌then◌else◌, ◌<?◌, ◌=?◌, within}
+use Rattle.std.specs.Prelude.{if◌then◌else◌}
+use Rattle.rules.specs.Words.{◌<?◌, ◌=?◌, within}
 use Rattle.rules.specs.Sheet.{Step, run, lock, unlock, Task}
 use Rattle.rules.specs.Reading.{read, byte, word, head_length, longest_task, longest_sheet, known, step_of, read_step, read_steps, read_task, read_tasks}
 use Rattle.rules.specs.Laws.{All, StepLimits, TaskLimits, LongestSheet, AcceptedWithinLimits}

@@ -8,7 +8,8 @@ use mathlib.Core.Bool.{Bool, true, false}
 use native.Mathlib.Omega.{arith}
 use borrow.Author.Tests.{eqb-true, eq-eqb, ne_eqb}
 use lib.ListN.{length, drop, get_or-eq_default}
-use Rattle.rules.specs.Words.{if◌then◌else◌, ◌<?◌, ◌≤?◌, ◌=?◌, some, smallest, largest}
+use Rattle.std.specs.Prelude.{if◌then◌else◌}
+use Rattle.rules.specs.Words.{◌<?◌, ◌≤?◌, ◌=?◌, some, smallest, largest}
 use Rattle.rules.specs.Sheet.{Step, Task, Sheet, no_task, task_at}
 use Rattle.rules.specs.Reading.{read, read_sheet}
 use Rattle.rules.specs.Choice.{ceiling}

@@ -7,7 +7,8 @@ use mathlib.Core.Bool.{Bool, true, false, not, ◌&&◌, ◌||◌, or-false}
 use native.Mathlib.Omega.{arith}
 use lib.ListN.{length, take, drop}
 use borrow.Author.Tests.{eqb-true, eq-eqb, leb-false, le-leb, lt-leb, not-true, not-false}
-use Rattle.rules.specs.Words.{if◌then◌else◌, ◌≤?◌, ◌=?◌, any, among}
+use Rattle.std.specs.Prelude.{if◌then◌else◌}
+use Rattle.rules.specs.Words.{◌≤?◌, ◌=?◌, any, among}
 use Rattle.rules.specs.Sheet.{Step, run, lock, unlock, Task, Body, end, a_run, a_section, is_lock, without, held_on_top, held}
 use Rattle.rules.specs.Reading.{read, head_length, misplaced_in, after_lock, misplaced, read_step, read_steps, read_task}
 use Rattle.rules.specs.declared.Head.{Head}

@@ -12,7 +12,7 @@ use lib.ListN.{length}
 use lib.IntN.{ℤ, pos, negsuc, ◌-ℤ◌}
 use lib.Signed.{le_z}
 use borrow.Author.Tests.{lt-ltb, ltb-true, lt-leb, le-leb}
-use Rattle.rules.specs.Words.{if◌then◌else◌}
+use Rattle.std.specs.Prelude.{if◌then◌else◌}
 use Rattle.rules.specs.Sheet.{Sheet, task_at}
 use Rattle.rules.specs.Reading.{read, read_sheet}
 use Rattle.rules.specs.Bounds.{demand, slack, larger, largest_of, laxity}

@@ -7,7 +7,8 @@ use mathlib.Core.Bool.{Bool, true, false, not, ◌&&◌}
 use native.Mathlib.Omega.{arith}
 use lib.ListN.{length, get_or, drop}
 use borrow.Author.Tests.{ltb-true, leb-true, eqb-true, lt-ltb, le-leb, eq-eqb, not-true}
-use Rattle.rules.specs.Words.{if◌then◌else◌, ◌<?◌, ◌≤?◌, ◌=?◌, ◌⇒◌, every, all}
+use Rattle.std.specs.Prelude.{if◌then◌else◌}
+use Rattle.rules.specs.Words.{◌<?◌, ◌≤?◌, ◌=?◌, ◌⇒◌, every, all}
 use Rattle.rules.specs.Sheet.{Step, Task, Sheet, task_at}
 use Rattle.rules.specs.Fields.{no_job, blank, place, counted, zeros, zero_record, none_yet, same_job}
 use Rattle.rules.specs.Record.{record_at, ahead, holds, counts_fit, last_fits, stands_well, job_fits, present_fits, record_fits, none_held_by_two, possible}

@@ -7,7 +7,8 @@ use mathlib.Core.Bool.{Bool, true, false, ◌&&◌, ◌||◌}
 use native.Mathlib.Omega.{arith}
 use lib.ListN.{length, take}
 use borrow.Author.Tests.{ltb-true}
-use Rattle.rules.specs.Words.{if◌then◌else◌, ◌<?◌, ◌=?◌, any, leading}
+use Rattle.std.specs.Prelude.{if◌then◌else◌}
+use Rattle.rules.specs.Words.{◌<?◌, ◌=?◌, any, leading}
 use Rattle.rules.specs.Sheet.{Step, run, lock, unlock, Task, Sheet, task_at, is_run, is_lock, is_lock_of}
 use Rattle.rules.specs.Record.{record_at, ahead}
 use Rattle.rules.specs.Choice.{job, locks, ceiling, at_run, fresh, goes, held_by_other, free_of_ceilings, may_go, runner}

@@ -1,6 +1,6 @@
 -- WHAT EACH CALL ANSWERS, refused calls too.
-use Rattle.std.specs.Prelude.{ℕ, suc, List, true, false, not, length, replicate, ℤ, pos, negsuc}
-use Rattle.rules.specs.Words.{if◌then◌else◌, ◌<?◌, ◌=?◌, row}
+use Rattle.std.specs.Prelude.{ℕ, suc, List, true, false, not, length, replicate, ℤ, pos, negsuc, if◌then◌else◌}
+use Rattle.rules.specs.Words.{◌<?◌, ◌=?◌, row}
 use Rattle.rules.specs.Sheet.{Sheet}
 use Rattle.rules.specs.Reading.{Reading, read, refused, refusal, refuse◌when◌, ◌>>=◌, ◌>>◌, read_sheet}
 use Rattle.rules.specs.Fields.{no_state, start}

@@ -1,7 +1,7 @@
 -- BOUNDS AND LAXITIES.
-use Rattle.std.specs.Prelude.{ℕ, zero, suc, ◌+◌, ◌*◌, ◌/◌, ◌%◌, List, [], ◌∷◌, Bool, false, ◌&&◌, drop, ℤ, pos, ◌-ℤ◌}
+use Rattle.std.specs.Prelude.{ℕ, zero, suc, ◌+◌, ◌*◌, ◌/◌, ◌%◌, List, [], ◌∷◌, Bool, false, ◌&&◌, drop, ℤ, pos, ◌-ℤ◌, if◌then◌else◌}
 use Rattle.std.specs.Int.Signed.{le_z}
-use Rattle.rules.specs.Words.{if◌then◌else◌, ◌<?◌, ◌≤?◌, ◌=?◌, some, smallest, largest, total}
+use Rattle.rules.specs.Words.{◌<?◌, ◌≤?◌, ◌=?◌, some, smallest, largest, total}
 use Rattle.rules.specs.Sheet.{Step, run, lock, unlock, Task, Sheet, task_at}
 use Rattle.rules.specs.Choice.{ceiling}
 use Rattle.rules.specs.declared.By.{By}

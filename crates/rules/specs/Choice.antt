@@ -1,7 +1,7 @@
 -- ONE TICK: the choice of the runner, rules 2 to 4.
 -- A sheet has at most sixteen tasks and sixteen semaphores: a rank or a semaphore is a number below 16.
-use Rattle.std.specs.Prelude.{ℕ, zero, suc, ◌≡◌, List, [], ◌∷◌, Bool, true, false, not, ◌&&◌, ◌||◌, take}
-use Rattle.rules.specs.Words.{if◌then◌else◌, ◌<?◌, ◌≤?◌, ◌=?◌, ◌⇒◌, some, every, smallest, any, among}
+use Rattle.std.specs.Prelude.{ℕ, zero, suc, ◌≡◌, List, [], ◌∷◌, Bool, true, false, not, ◌&&◌, ◌||◌, take, if◌then◌else◌}
+use Rattle.rules.specs.Words.{◌<?◌, ◌≤?◌, ◌=?◌, ◌⇒◌, some, every, smallest, any, among}
 use Rattle.rules.specs.Sheet.{Step, run, lock, unlock, Task, Sheet, task_at, is_run, is_lock, is_lock_of}
 use Rattle.rules.specs.Record.{record_at, behind, ahead, holds}
 use Rattle.rules.specs.declared.Job.{Job}

@@ -1,6 +1,6 @@
 -- THE FIELDS OF THE RECORD: the one place that lists them. The other chapters name a field only where a rule is about it.
-use Rattle.std.specs.Prelude.{ℕ, ◌+◌, List, [], ◌∷◌, map, Bool, true, false, not, ◌&&◌, replicate}
-use Rattle.rules.specs.Words.{if◌then◌else◌, ◌=?◌, all}
+use Rattle.std.specs.Prelude.{ℕ, ◌+◌, List, [], ◌∷◌, map, Bool, true, false, not, ◌&&◌, replicate, if◌then◌else◌}
+use Rattle.rules.specs.Words.{◌=?◌, all}
 use Rattle.rules.specs.declared.Job.{Job}
 use Rattle.rules.specs.declared.Counts.{Counts}
 use Rattle.rules.specs.declared.TaskRecord.{TaskRecord}

@@ -1,6 +1,6 @@
 -- THE RECORD OF A RUN.
-use Rattle.std.specs.Prelude.{ℕ, List, [], ◌∷◌, Bool, false, ◌&&◌, ◌||◌, length, get_or, take, drop}
-use Rattle.rules.specs.Words.{if◌then◌else◌, ◌<?◌, ◌≤?◌, ◌=?◌, ◌⇒◌, within, every, all, among}
+use Rattle.std.specs.Prelude.{ℕ, List, [], ◌∷◌, Bool, false, ◌&&◌, ◌||◌, length, get_or, take, drop, if◌then◌else◌}
+use Rattle.rules.specs.Words.{◌<?◌, ◌≤?◌, ◌=?◌, ◌⇒◌, within, every, all, among}
 use Rattle.rules.specs.Sheet.{Step, run, lock, unlock, Task, Sheet, task_at, held}
 use Rattle.rules.specs.Fields.{blank, place, counted, zeros, zero_record, none_yet, same_job}
 use Rattle.rules.specs.declared.Job.{Job}

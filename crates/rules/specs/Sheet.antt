@@ -1,6 +1,6 @@
 -- THE TASK SHEET.
-use Rattle.std.specs.Prelude.{ℕ, ◌≤◌, ◌<◌, ◌≡◌, List, [], ◌∷◌, ◌++◌, Bool, true, false, length, get_or}
-use Rattle.rules.specs.Words.{if◌then◌else◌, ◌=?◌, among}
+use Rattle.std.specs.Prelude.{ℕ, ◌≤◌, ◌<◌, ◌≡◌, List, [], ◌∷◌, ◌++◌, Bool, true, false, length, get_or, if◌then◌else◌}
+use Rattle.rules.specs.Words.{◌=?◌, among}
 
 -- A step runs for some ticks, locks a semaphore or unlocks one.
 pub data Step : Type 0 where

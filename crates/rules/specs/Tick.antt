@@ -1,6 +1,6 @@
 -- ONE TICK: what it does with the runner, rules 1, 5, 6 and 7.
-use Rattle.std.specs.Prelude.{ℕ, ◌+◌, ◌-◌, ◌%◌, max, List, Bool, not, ◌&&◌, length, drop}
-use Rattle.rules.specs.Words.{if◌then◌else◌, ◌<?◌, ◌≤?◌, ◌=?◌, row, leading}
+use Rattle.std.specs.Prelude.{ℕ, ◌+◌, ◌-◌, ◌%◌, max, List, Bool, not, ◌&&◌, length, drop, if◌then◌else◌}
+use Rattle.rules.specs.Words.{◌<?◌, ◌≤?◌, ◌=?◌, row, leading}
 use Rattle.rules.specs.Sheet.{Task, Sheet, task_at, is_lock, is_unlock}
 use Rattle.rules.specs.Fields.{Releases, Completions, Misses, TicksRun, TicksBlocked, WorstResponse, MostBlocked, with_count, up, standing, moved_to, held_up, no_job, with_job, with_counts, last_job, same_job}
 use Rattle.rules.specs.Record.{record_at, ahead}

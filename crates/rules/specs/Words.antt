@@ -1,10 +1,5 @@
 -- The words that every chapter uses: tests, quantities over the numbers below n, and rows.
-use Rattle.std.specs.Prelude.{ℕ, zero, suc, ◌+◌, max, List, [], ◌∷◌, ◌++◌, Bool, true, false, not, ◌&&◌, ◌||◌, ltb, leb, eqb}
-
-infixr 10 if◌then◌else◌
-abbrev pub if◌then◌else◌ {ℓ} : {A : Type ℓ} → Bool → A → A → A
-if true then a else b = a
-if false then a else b = b
+use Rattle.std.specs.Prelude.{ℕ, zero, suc, ◌+◌, max, List, [], ◌∷◌, ◌++◌, Bool, true, false, not, ◌&&◌, ◌||◌, ltb, leb, eqb, if◌then◌else◌}
 
 infix 50 ◌<?◌ ◌≤?◌ ◌=?◌
 abbrev pub ◌<?◌ : ℕ → ℕ → Bool

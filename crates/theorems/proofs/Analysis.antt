@@ -8,7 +8,8 @@ use native.Mathlib.Omega.{arith}
 use lib.ListN.{drop}
 use lib.IntN.{pos, ◌-ℤ◌}
 use borrow.Author.Tests.{eq-eqb, lt-leb}
-use Rattle.rules.specs.Words.{if◌then◌else◌, ◌<?◌, ◌≤?◌, ◌=?◌, some, smallest, any}
+use Rattle.std.specs.Prelude.{if◌then◌else◌}
+use Rattle.rules.specs.Words.{◌<?◌, ◌≤?◌, ◌=?◌, some, smallest, any}
 use Rattle.rules.specs.Sheet.{Step, run, lock, unlock, Task, Sheet, task_at, is_lock_of}
 use Rattle.rules.specs.Choice.{locks, ceiling}
 use Rattle.rules.specs.Bounds.{section_length, begins, steps_from, is_counted, counted_length, bound, gives, bound_by, cost, rounded_up, demand, slack, largest_of, laxity}

@@ -8,7 +8,8 @@ use native.Mathlib.Omega.{arith}
 use lib.ListN.{length, get_or}
 use lib.Seq.{get_or-take}
 use borrow.Author.Tests.{leb-true, lt-ltb, le-leb, ne_eqb}
-use Rattle.rules.specs.Words.{if◌then◌else◌, ◌<?◌, ◌≤?◌, ◌=?◌, ◌⇒◌, among}
+use Rattle.std.specs.Prelude.{if◌then◌else◌}
+use Rattle.rules.specs.Words.{◌<?◌, ◌≤?◌, ◌=?◌, ◌⇒◌, among}
 use Rattle.rules.specs.Sheet.{Task, Sheet, no_task, task_at}
 use Rattle.rules.specs.Fields.{blank, start}
 use Rattle.rules.specs.Record.{record_at, carries, holds}

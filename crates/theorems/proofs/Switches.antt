@@ -6,7 +6,7 @@ use mathlib.Core.List.{List, [], ◌∷◌}
 use mathlib.Core.Bool.{Bool, true, false}
 use native.Mathlib.Omega.{arith}
 use lib.ListN.{length}
-use Rattle.rules.specs.Words.{if◌then◌else◌}
+use Rattle.std.specs.Prelude.{if◌then◌else◌}
 use Rattle.rules.specs.Sheet.{Sheet, run}
 use Rattle.rules.specs.Fields.{none_yet, same_job, start}
 use Rattle.rules.specs.Choice.{Runner, job, stuck, idle}

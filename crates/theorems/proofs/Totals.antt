@@ -7,7 +7,8 @@ use native.Mathlib.Omega.{arith}
 use native.Mathlib.Nat.{add-zero}
 use lib.ListN.{length, get_or, replicate}
 use borrow.Author.Tests.{eqb-true, lt-ltb, le-ltb}
-use Rattle.rules.specs.Words.{if◌then◌else◌, ◌<?◌, ◌=?◌, total}
+use Rattle.std.specs.Prelude.{if◌then◌else◌}
+use Rattle.rules.specs.Words.{◌<?◌, ◌=?◌, total}
 use Rattle.rules.specs.Sheet.{Task, Sheet, task_at}
 use Rattle.rules.specs.Fields.{TicksRun, up, blank, same_job, start}
 use Rattle.rules.specs.Record.{record_at}

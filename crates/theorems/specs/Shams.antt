@@ -1,7 +1,7 @@
 -- THE FIVE SHAMS. Refusing always, one fixed answer and an untouched record all satisfy demand 3; a first tick that does
 -- the whole run and totals made up at will keep the looks. No function of such a kind meets its call's contract.
-use Rattle.std.specs.Prelude.{ℕ, suc, ◌+◌, ◌<◌, ◌≡◌, List, Bool, not, ◌&&◌}
-use Rattle.rules.specs.Words.{if◌then◌else◌, ◌<?◌, total}
+use Rattle.std.specs.Prelude.{ℕ, suc, ◌+◌, ◌<◌, ◌≡◌, List, Bool, not, ◌&&◌, if◌then◌else◌}
+use Rattle.rules.specs.Words.{◌<?◌, total}
 use Rattle.rules.specs.Sheet.{Sheet}
 use Rattle.rules.specs.Fields.{same_job, start}
 use Rattle.rules.specs.Record.{record_at}
