@@ -12,7 +12,8 @@ use lib.IntN.{ℤ, pos, negsuc, ◌-ℤ◌}
 use borrow.Author.Tests.{lt-ltb, le-ltb, eq-eqb, ne_eqb}
 use mir.Val.{Fits}
 use mir.Syntax.{w16, w32, w64}
-use Rattle.rules.specs.Words.{if◌then◌else◌, ◌<?◌, row, total}
+use Rattle.std.specs.Prelude.{if◌then◌else◌}
+use Rattle.rules.specs.Words.{◌<?◌, row, total}
 use Rattle.rules.specs.Sheet.{Task, Sheet, task_at}
 use Rattle.rules.specs.Bounds.{bound, bound_by, cost, rounded_up, demand, slack, largest_of, laxity}
 use Rattle.rules.specs.Answers.{by_rank, bound_of, no_bound, signed, laxity_of, no_laxity}

@@ -1,7 +1,7 @@
 -- The laxity by the rows of C and of periods and a bound: document 01's, of rows that need not be a sheet's.
 -- Of a sheet's own it is the sheet's laxity (proofs/Laxity.antt, laxity_of_sheet).
-use Rattle.std.specs.Prelude.{ℕ, ◌+◌, ◌*◌, ◌/◌, ◌%◌, ◌≤◌, ◌<◌, List, Bool, ◌&&◌, ◌||◌, get_or, ℤ, pos, ◌-ℤ◌}
-use Rattle.rules.specs.Words.{if◌then◌else◌, ◌<?◌, ◌=?◌, some, row, total}
+use Rattle.std.specs.Prelude.{ℕ, ◌+◌, ◌*◌, ◌/◌, ◌%◌, ◌≤◌, ◌<◌, List, Bool, ◌&&◌, ◌||◌, get_or, ℤ, pos, ◌-ℤ◌, if◌then◌else◌}
+use Rattle.rules.specs.Words.{◌<?◌, ◌=?◌, some, row, total}
 use Rattle.rules.specs.Bounds.{rounded_up, largest_of}
 use Rattle.rules.specs.Answers.{no_bound, signed, no_laxity}
 use Rattle.rules.specs.declared.Bound.{Bound}

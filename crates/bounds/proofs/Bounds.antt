@@ -10,7 +10,8 @@ use mir.Val.{Fits}
 use mir.Syntax.{w16, w64}
 use lib.ListN.{length, get_or, drop}
 use lib.Seq.{drop-drop}
-use Rattle.rules.specs.Words.{if◌then◌else◌, ◌<?◌, ◌≤?◌, ◌=?◌, some, smallest, row, largest}
+use Rattle.std.specs.Prelude.{if◌then◌else◌}
+use Rattle.rules.specs.Words.{◌<?◌, ◌≤?◌, ◌=?◌, some, smallest, row, largest}
 use Rattle.rules.specs.Sheet.{Step, run, lock, unlock, Task, Sheet, task_at, is_unlock}
 use Rattle.rules.specs.Choice.{ceiling}
 use Rattle.rules.specs.Bounds.{runs, inside, section_length, begins, steps_from, is_counted, counted_length, bound, gives, bound_by, cost}

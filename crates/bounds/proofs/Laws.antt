@@ -9,7 +9,8 @@ use native.Mathlib.Nat.{suc-mul}
 use borrow.Author.Tests.{lt-ltb, le-ltb}
 use lib.ListN.{length, get_or, set, replicate, length-set, get_or-replicate, get_or-eq_default}
 use lib.Seq.{ext_get_or, get_or-set_same, get_or-set_other}
-use Rattle.rules.specs.Words.{if◌then◌else◌, ◌<?◌, row, largest, total}
+use Rattle.std.specs.Prelude.{if◌then◌else◌}
+use Rattle.rules.specs.Words.{◌<?◌, row, largest, total}
 use Rattle.rules.specs.Sheet.{Sheet}
 use Rattle.rules.specs.Answers.{by_rank}
 use Rattle.rules.proofs.Laws.{below, and_at, length_row, row_at}

@@ -1,6 +1,6 @@
 -- What a scan over a task's steps looks at.
-use Rattle.std.specs.Prelude.{ℕ, List, Bool, false, ◌&&◌, get_or, drop}
-use Rattle.rules.specs.Words.{if◌then◌else◌, ◌≤?◌, ◌=?◌, smallest}
+use Rattle.std.specs.Prelude.{ℕ, List, Bool, false, ◌&&◌, get_or, drop, if◌then◌else◌}
+use Rattle.rules.specs.Words.{◌≤?◌, ◌=?◌, smallest}
 use Rattle.rules.specs.Sheet.{Step, run, lock, unlock}
 use Rattle.rules.specs.Bounds.{section_length, begins}
 use Rattle.rules.specs.Laws.{All, StepLimits}

@@ -8,7 +8,8 @@ use native.Mathlib.Omega.{arith}
 use lib.ListN.{take, drop}
 use lib.Seq.{take_all, drop-drop}
 use borrow.Author.Tests.{eq-eqb, ne_eqb, not-true, not-false}
-use Rattle.rules.specs.Words.{if◌then◌else◌, ◌=?◌, any}
+use Rattle.std.specs.Prelude.{if◌then◌else◌}
+use Rattle.rules.specs.Words.{◌=?◌, any}
 use Rattle.rules.specs.Sheet.{Step, Task, is_run, is_lock}
 use Rattle.rules.specs.Record.{behind, ahead}
 use Rattle.rules.specs.Choice.{at_run, full, fresh, goes}

@@ -9,7 +9,8 @@ use native.Mathlib.Omega.{arith}
 use native.Mathlib.Numerals.{add-one}
 use lib.ListN.{get_or}
 use borrow.Author.Tests.{lt-ltb, le-ltb, le-leb, lt-leb, eq-eqb, ne_eqb, eqb-true, eqb-false, ltb-true, ltb-false}
-use Rattle.rules.specs.Words.{if◌then◌else◌, ◌<?◌, ◌=?◌, ◌⇒◌, some, every, smallest, row}
+use Rattle.std.specs.Prelude.{if◌then◌else◌}
+use Rattle.rules.specs.Words.{◌<?◌, ◌=?◌, ◌⇒◌, some, every, smallest, row}
 use Rattle.rules.specs.Sheet.{Sheet, task_at}
 use Rattle.rules.specs.Record.{holds, none_held_by_two}
 use Rattle.rules.specs.Choice.{locks, ceiling, held_by_other, free_of_ceilings, in_the_way, next_candidate}

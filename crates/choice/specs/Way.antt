@@ -1,6 +1,6 @@
 -- What is in a job's way, from the sixteen ceilings and the sixteen holders.
-use Rattle.std.specs.Prelude.{ℕ, zero, suc, List, Bool, not, ◌&&◌, get_or}
-use Rattle.rules.specs.Words.{if◌then◌else◌, ◌<?◌, ◌=?◌}
+use Rattle.std.specs.Prelude.{ℕ, zero, suc, List, Bool, not, ◌&&◌, get_or, if◌then◌else◌}
+use Rattle.rules.specs.Words.{◌<?◌, ◌=?◌}
 use Rattle.choice.specs.declared.Way.{Way}
 
 abbrev pub way : (ceiling holder : ℕ) → Way

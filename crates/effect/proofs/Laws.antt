@@ -11,7 +11,8 @@ use lib.Dec.{eqb}
 use lib.ListN.{length, get_or, drop, set, length-set, length-drop}
 use lib.Seq.{drop-drop, ext_get_or, get_or-set_same, get_or-set_other}
 use borrow.Author.Tests.{lt-ltb, le-ltb, le-leb, lt-leb, eq-eqb, ne_eqb, eqb-true, eqb-false}
-use Rattle.rules.specs.Words.{if◌then◌else◌, ◌<?◌, ◌=?◌, leading}
+use Rattle.std.specs.Prelude.{if◌then◌else◌}
+use Rattle.rules.specs.Words.{◌<?◌, ◌=?◌, leading}
 use Rattle.rules.specs.Sheet.{Step, Task, Sheet, task_at, is_lock, is_unlock}
 use Rattle.rules.specs.Fields.{Releases, Misses, TicksRun, up, standing, moved_to, no_job, blank, last_job, same_job, with_tasks}
 use Rattle.rules.specs.Record.{record_at, ahead}

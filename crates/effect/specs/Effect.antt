@@ -1,6 +1,6 @@
 -- What the contracts say beside the rules: the runner that a byte names, ticks without a release, records changed in turn.
-use Rattle.std.specs.Prelude.{ℕ, ◌≤◌, ◌<◌, ◌≡◌, List, false, length}
-use Rattle.rules.specs.Words.{if◌then◌else◌, ◌<?◌, ◌=?◌, row}
+use Rattle.std.specs.Prelude.{ℕ, ◌≤◌, ◌<◌, ◌≡◌, List, false, length, if◌then◌else◌}
+use Rattle.rules.specs.Words.{◌<?◌, ◌=?◌, row}
 use Rattle.rules.specs.Sheet.{Task, Sheet, task_at}
 use Rattle.rules.specs.Record.{record_at}
 use Rattle.rules.specs.Tick.{releases_at, was_blocked}

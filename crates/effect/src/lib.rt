@@ -2,8 +2,8 @@
 // tick's end (rule 7). Each contract names the definition of rules/specs/Tick.antt that the function is equal to.
 #![tactic(auto)]
 
-ghost use Rattle.std.specs.Prelude.{◌≡◌, List, true, ℕ, ◌+◌, ◌-◌, ◌<◌, ◌≤◌, drop};
-ghost use Rattle.rules.specs.Words.{if◌then◌else◌, leading};
+ghost use Rattle.std.specs.Prelude.{◌≡◌, List, true, ℕ, ◌+◌, ◌-◌, ◌<◌, ◌≤◌, drop, if◌then◌else◌};
+ghost use Rattle.rules.specs.Words.{leading};
 ghost use Rattle.rules.specs.Choice.{full, job};
 ghost use Rattle.rules.specs.Fields.{with_tasks, same_job};
 ghost use Rattle.rules.specs.Tick.{releases_at, released, after_releases, left_of_run, next_run, advanced, spent, after_runner, ran_last, closed};

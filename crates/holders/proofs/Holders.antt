@@ -9,7 +9,8 @@ use native.Mathlib.Numerals.{add-one}
 use lib.ListN.{length, get_or, set, replicate, length-set, get_or-eq_default}
 use lib.Seq.{take-nil, get_or-set_same, get_or-set_other, ext_get_or}
 use borrow.Author.Tests.{lt-ltb, le-ltb, eq-eqb, ne_eqb, eqb-true, eqb-false}
-use Rattle.rules.specs.Words.{if◌then◌else◌, ◌=?◌, smallest, row, any, among}
+use Rattle.std.specs.Prelude.{if◌then◌else◌}
+use Rattle.rules.specs.Words.{◌=?◌, smallest, row, any, among}
 use Rattle.rules.specs.Sheet.{Step, run, lock, unlock, Task, Sheet, no_task, task_at, is_lock, is_lock_of, without, held_on_top, held}
 use Rattle.rules.specs.Fields.{blank}
 use Rattle.rules.specs.Record.{record_at, behind, carries, holds}

@@ -8,7 +8,8 @@ use native.Mathlib.Omega.{arith}
 use lib.ListN.{length, take, drop, replicate}
 use lib.Seq.{drop-length}
 use borrow.Author.Tests.{leb-false, eq-eqb, ne_eqb, eqb-true, eqb-false, not-true}
-use Rattle.rules.specs.Words.{if◌then◌else◌, ◌≤?◌, ◌=?◌, some, smallest, row, any, among}
+use Rattle.std.specs.Prelude.{if◌then◌else◌}
+use Rattle.rules.specs.Words.{◌≤?◌, ◌=?◌, some, smallest, row, any, among}
 use Rattle.rules.specs.Sheet.{Step, run, lock, unlock, Task, Sheet, Body, task_at, is_lock, is_lock_of, without, held_on_top, held}
 use Rattle.rules.specs.Reading.{read, read_sheet}
 use Rattle.rules.specs.Fields.{start}

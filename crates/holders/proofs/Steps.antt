@@ -7,7 +7,8 @@ use native.Mathlib.Omega.{arith}
 use lib.ListN.{get_or, take, drop, set}
 use lib.Seq.{take-nil, drop-drop}
 use borrow.Author.Tests.{lt-ltb, le-ltb, eq-eqb, ne_eqb}
-use Rattle.rules.specs.Words.{if◌then◌else◌, ◌<?◌}
+use Rattle.std.specs.Prelude.{if◌then◌else◌}
+use Rattle.rules.specs.Words.{◌<?◌}
 use Rattle.rules.specs.Sheet.{Step, run, lock, unlock, Task, is_lock}
 use Rattle.rules.specs.Record.{behind}
 use Rattle.rules.specs.declared.Job.{Job}

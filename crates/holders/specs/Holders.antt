@@ -1,6 +1,6 @@
 -- Rule 2's arrays of sixteen, one entry per semaphore: the rank that holds it, or its ceiling.
-use Rattle.std.specs.Prelude.{ℕ, ◌-◌, List, [], ◌∷◌, Bool, length, get_or, take, drop, set}
-use Rattle.rules.specs.Words.{if◌then◌else◌, ◌<?◌, ◌=?◌, smallest, row, among}
+use Rattle.std.specs.Prelude.{ℕ, ◌-◌, List, [], ◌∷◌, Bool, length, get_or, take, drop, set, if◌then◌else◌}
+use Rattle.rules.specs.Words.{◌<?◌, ◌=?◌, smallest, row, among}
 use Rattle.rules.specs.Sheet.{Step, run, lock, unlock, Task, Sheet, is_lock}
 use Rattle.rules.specs.Record.{behind, holds}
 use Rattle.rules.specs.declared.Job.{Job}

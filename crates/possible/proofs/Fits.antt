@@ -6,7 +6,8 @@ use mathlib.Core.Bool.{Bool, true, false, not, ◌&&◌, ◌||◌}
 use native.Mathlib.Omega.{arith}
 use lib.ListN.{get_or, drop}
 use borrow.Author.Tests.{lt-ltb, le-ltb, le-leb, lt-leb, not-true, not-false}
-use Rattle.rules.specs.Words.{if◌then◌else◌, ◌<?◌, ◌≤?◌, ◌=?◌, ◌⇒◌, within}
+use Rattle.std.specs.Prelude.{if◌then◌else◌}
+use Rattle.rules.specs.Words.{◌<?◌, ◌≤?◌, ◌=?◌, ◌⇒◌, within}
 use Rattle.rules.specs.Sheet.{Step, run, lock, unlock, Task, Sheet, is_run, is_lock}
 use Rattle.rules.specs.Fields.{blank, place, zeros, zero_record, none_yet, same_job}
 use Rattle.rules.specs.Record.{record_at, ahead, counts_fit, last_fits, stands_well, job_fits, present_fits, record_fits, none_held_by_two, possible}

@@ -7,7 +7,8 @@ use mathlib.Core.Bool.{Bool, true, false, not, ◌&&◌}
 use native.Mathlib.Omega.{arith}
 use lib.ListN.{length, get_or, take, replicate}
 use borrow.Author.Tests.{eq-eqb, ne_eqb, eqb-true, eqb-false, not-true, not-false}
-use Rattle.rules.specs.Words.{if◌then◌else◌, ◌=?◌, ◌⇒◌, row, any, among}
+use Rattle.std.specs.Prelude.{if◌then◌else◌}
+use Rattle.rules.specs.Words.{◌=?◌, ◌⇒◌, row, any, among}
 use Rattle.rules.specs.Sheet.{Step, Task, Sheet, task_at, held}
 use Rattle.rules.specs.Fields.{blank}
 use Rattle.rules.specs.Record.{record_at, behind, carries, holds, none_held_by_two}

@@ -5,7 +5,8 @@ use mathlib.Core.List.{List, [], ◌∷◌}
 use mathlib.Core.Bool.{Bool, ◌||◌}
 use lib.ListN.{take, drop}
 use lib.Seq.{take-nil}
-use Rattle.rules.specs.Words.{if◌then◌else◌, ◌=?◌, any, leading}
+use Rattle.std.specs.Prelude.{if◌then◌else◌}
+use Rattle.rules.specs.Words.{◌=?◌, any, leading}
 use Rattle.rules.specs.Sheet.{Step, run, lock, unlock, is_run, is_lock, is_unlock}
 use Rattle.rules.specs.Choice.{full}
 use Rattle.table.specs.Table.{here}
