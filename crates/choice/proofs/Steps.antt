@@ -12,7 +12,7 @@ use Rattle.std.specs.Prelude.{if◌then◌else◌}
 use Rattle.rules.specs.Words.{◌=?◌, any}
 use Rattle.rules.specs.Sheet.{Step, Task, is_run, is_lock}
 use Rattle.rules.specs.Record.{behind, ahead}
-use Rattle.rules.specs.Choice.{at_run, full, fresh, goes}
+use Rattle.rules.specs.Choice.{at_run, fresh, goes}
 use Rattle.rules.specs.declared.Job.{Job}
 use Rattle.rules.proofs.Laws.{sure, and_no, and_true}
 use Rattle.table.specs.Table.{here, task_of}

@@ -3,11 +3,10 @@ use Prim.Native.Nat.{ℕ, zero, suc}
 use mathlib.Core.Logic.{◌⊎◌, inl, inr, ⊎_elim}
 use mathlib.Core.Path.{◌≡◌, refl, ap, ◌∙◌}
 use mathlib.Core.List.{List}
-use mathlib.Core.Bool.{false}
 use native.Mathlib.Omega.{arith}
 use lib.ListN.{length, replicate}
 use Rattle.rules.specs.Sheet.{Sheet}
-use Rattle.rules.specs.Reading.{Reading, read, refused, refusal, read_sheet}
+use Rattle.rules.specs.Reading.{Reading, read, refused, read_sheet}
 use Rattle.rules.specs.Words.{row}
 use Rattle.rules.specs.Choice.{ceiling}
 use Rattle.rules.specs.Answers.{why, made, by_rank, no_bound, bound_of, no_laxity, laxity_of, check, ceilings, bounds, laxities}

@@ -1,5 +1,5 @@
 -- Laws of what stands at a place: the kinds by their numbers, and a walk over steps that pass a test.
-use Prim.Native.Nat.{ℕ, suc, ◌-◌}
+use Prim.Native.Nat.{ℕ, suc}
 use mathlib.Core.Path.{◌≡◌, refl}
 use mathlib.Core.List.{List, [], ◌∷◌}
 use mathlib.Core.Bool.{Bool, ◌||◌}

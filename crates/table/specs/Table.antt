@@ -1,5 +1,5 @@
 -- The sheet that bytes and a table are: the table has the tasks' numbers and says where in the bytes their steps stand.
-use Rattle.std.specs.Prelude.{ℕ, ◌+◌, ◌*◌, ◌≤◌, ◌<◌, ◌≡◌, List, [], ◌∷◌, length, get_or, if◌then◌else◌}
+use Rattle.std.specs.Prelude.{ℕ, ◌+◌, ◌*◌, ◌≤◌, ◌≡◌, List, [], ◌∷◌, length, get_or, if◌then◌else◌}
 use Rattle.rules.specs.Words.{◌<?◌, row}
 use Rattle.rules.specs.Sheet.{Step, run, lock, unlock, Task, Sheet}
 use Rattle.rules.specs.Reading.{byte, word, step_of, read, read_sheet}

@@ -1,10 +1,6 @@
 -- The loop stops at the first other task that has the points; where it finds none, none has.
-use Prim.Native.Nat.{ℕ, ◌+◌, ◌-◌, ◌≤◌, ◌<◌}
-use mathlib.Core.Path.{◌≡◌}
-use mathlib.Core.Bool.{false}
 use native.Mathlib.Omega.{arith}
 use borrow.Author.Rules.{rules}
-use Rattle.analysis.specs.Laxity.{has_points_of}
 use Rattle.analysis.proofs.Counted.{another_found, another_turn, another_none}
 use Rattle.analysis.proofs.another_has.Goals as goal
 

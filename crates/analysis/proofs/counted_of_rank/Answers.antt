@@ -1,5 +1,4 @@
 -- A task's largest slack, or the slack at the last point where another task has its points.
-use borrow.Author.Rules.{rules}
 use Rattle.analysis.proofs.Counted.{counted_without, counted_with}
 use Rattle.analysis.proofs.counted_of_rank.Goals as goal
 

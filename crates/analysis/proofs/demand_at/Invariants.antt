@@ -1,14 +1,8 @@
 -- Rank by rank up to i a demand is added to the bound, and the sum stays at most the raise.
 use Prim.Native.Nat.{◌+◌, ◌-◌, ◌*◌, ◌≤◌}
 use mathlib.Core.Path.{◌≡◌}
-use native.Mathlib.Omega.{arith}
-use borrow.Author.Rules.{rules}
-use mir.Val.{Fits}
-use mir.Syntax.{w16}
-use lib.ListN.{get_or}
 use Rattle.rules.specs.Words.{total}
 use Rattle.analysis.specs.Laxity.{demand_of}
-use Rattle.analysis.proofs.Laxity.{product_fits, demand_begin, demand_adds, demand_stays, demand_turn, demand_end}
 use Rattle.analysis.proofs.demand_at.Given as goal
 
 abbrev pub invariant-loop-r : goal.invariant-loop-r

@@ -1,5 +1,4 @@
 -- Task j has the points of task k where its period divides the other's, and of two with the same period the first has them.
-use borrow.Author.Rules.{rules}
 use Rattle.analysis.proofs.Counted.{has_before, has_smaller, has_none}
 use Rattle.analysis.proofs.has_points_of.Goals as goal
 

@@ -1,11 +1,7 @@
 -- Point by point of task k, the largest slack so far; a point is at most task i's period, so that it fits.
-use Prim.Native.Nat.{◌-◌, ◌≤◌}
-use mathlib.Core.Path.{◌≡◌}
 use native.Mathlib.Omega.{arith}
 use borrow.Author.Rules.{rules}
-use lib.ListN.{get_or}
-use Rattle.rules.specs.Bounds.{largest_of}
-use Rattle.analysis.specs.Laxity.{slack_from, point_from, largest_from, lowered}
+use Rattle.analysis.specs.Laxity.{point_from, largest_from}
 use Rattle.analysis.proofs.Integers.{largest_of_begin, largest_of_turn, largest_of_end}
 use Rattle.analysis.proofs.Laxity.{turn_fits, point_fits, point_below}
 use Rattle.analysis.proofs.largest_of_rank.Goals as goal

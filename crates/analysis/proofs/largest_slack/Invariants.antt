@@ -1,15 +1,9 @@
 -- Rank by rank up to i, the largest slack at the points so far; at the end it is the laxity, raised.
 use Prim.Native.Nat.{◌+◌, ◌-◌, ◌≤◌}
-use mathlib.Core.Path.{◌≡◌, ◌∙◌}
-use native.Mathlib.Omega.{arith}
-use borrow.Author.Rules.{rules}
-use mir.Val.{Fits}
-use mir.Syntax.{w16}
+use mathlib.Core.Path.{◌≡◌}
 use lib.ListN.{get_or}
 use Rattle.rules.specs.Bounds.{largest_of}
 use Rattle.analysis.specs.Laxity.{slack_from, counted_from, lowered}
-use Rattle.analysis.proofs.Integers.{largest_of_begin, largest_of_turn, largest_of_end}
-use Rattle.analysis.proofs.Counted.{counted_all}
 use Rattle.analysis.proofs.largest_slack.Given as goal
 
 abbrev pub invariant-loop-k : goal.invariant-loop-k

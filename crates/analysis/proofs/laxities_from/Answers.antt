@@ -1,11 +1,7 @@
 -- Rank by rank the array gets the laxities of the rows; behind n it stays zero.
-use Prim.Native.Nat.{◌-◌, ◌≤◌}
 use native.Mathlib.Omega.{arith}
 use borrow.Author.Rules.{rules}
-use lib.ListN.{get_or}
-use Rattle.rules.specs.Answers.{no_bound, no_laxity}
-use Rattle.analysis.specs.Laxity.{of_rank}
-use Rattle.bounds.proofs.Laws.{Filled, filled_none, filled_turn}
+use Rattle.bounds.proofs.Laws.{filled_none, filled_turn}
 use Rattle.analysis.proofs.Laxity.{periods_first, laxities_end}
 use Rattle.analysis.proofs.laxities_from.Goals as goal
 

@@ -1,5 +1,4 @@
 -- The rows are those of the sheet's C, periods and bounds, so the laxities by them are the sheet's.
-use borrow.Author.Rules.{rules}
 use Rattle.analysis.proofs.Laxity.{periods_sound, laxities_of_sheet}
 use Rattle.analysis.proofs.laxities_of.Goals as goal
 

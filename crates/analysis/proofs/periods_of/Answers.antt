@@ -1,11 +1,9 @@
 -- Rank by rank the array gets the entries' periods; past the last that is 0.
-use Prim.Native.Nat.{◌-◌, ◌≤◌}
 use mathlib.Core.Path.{ap}
 use native.Mathlib.Omega.{arith}
 use borrow.Author.Rules.{rules}
 use Rattle.table.specs.declared.Entry.{Entry}
-use Rattle.table.specs.Table.{entry_of}
-use Rattle.bounds.proofs.Laws.{Filled, filled_none, filled_turn, filled_all}
+use Rattle.bounds.proofs.Laws.{filled_none, filled_turn, filled_all}
 use Rattle.analysis.proofs.periods_of.Goals as goal
 
 pub loop-i-init : goal.loop-i-init

@@ -1,11 +1,7 @@
 -- Rank by rank the array gets the entries' periods; past the last that is 0.
 use Prim.Native.Nat.{◌-◌, ◌≤◌}
-use mathlib.Core.Path.{ap}
-use native.Mathlib.Omega.{arith}
-use borrow.Author.Rules.{rules}
-use Rattle.table.specs.declared.Entry.{Entry}
 use Rattle.table.specs.Table.{entry_of}
-use Rattle.bounds.proofs.Laws.{Filled, filled_none, filled_turn, filled_all}
+use Rattle.bounds.proofs.Laws.{Filled}
 use Rattle.analysis.proofs.periods_of.Given as goal
 
 abbrev pub invariant-loop-i : goal.invariant-loop-i

@@ -1,5 +1,4 @@
 -- The quotient rounded up is the rules', and is small enough for a product with C.
-use borrow.Author.Rules.{rules}
 use Rattle.analysis.proofs.Laxity.{rounded_whole, rounded_fits, rounded_more}
 use Rattle.analysis.proofs.rounded_up.Goals as goal
 

@@ -1,5 +1,4 @@
 -- Below the raise the slack is negative, from the raise on it is not, and the size is the distance from it.
-use borrow.Author.Rules.{rules}
 use Rattle.analysis.proofs.Integers.{signed_below, signed_above}
 use Rattle.analysis.proofs.signed_of.Goals as goal
 

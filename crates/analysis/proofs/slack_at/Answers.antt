@@ -1,6 +1,5 @@
 -- The demand is at most the raise, so that t, raised, less the demand is the slack, raised.
 use mathlib.Core.Path.{refl}
-use borrow.Author.Rules.{rules}
 use Rattle.analysis.proofs.Laxity.{slack_turn}
 use Rattle.analysis.proofs.slack_at.Goals as goal
 

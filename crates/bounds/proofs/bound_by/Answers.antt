@@ -1,11 +1,5 @@
 -- The loop stops at the first task behind i that has a section which gives the bound; those up to i have none that counts.
-use Prim.Native.Nat.{ℕ, ◌-◌, ◌≤◌, ◌<◌}
-use mathlib.Core.Path.{◌≡◌}
-use mathlib.Core.Bool.{false}
 use borrow.Author.Rules.{rules}
-use Rattle.rules.specs.Words.{some}
-use Rattle.rules.specs.Bounds.{gives}
-use Rattle.table.specs.Table.{sheet_of}
 use Rattle.bounds.proofs.Bounds.{sound_from, by_begin, by_found, by_turn, by_none}
 use Rattle.bounds.proofs.bound_by.Goals as goal
 

@@ -1,5 +1,4 @@
 -- The bound fits 16 bits.
-use borrow.Author.Rules.{rules}
 use Rattle.bounds.proofs.Bounds.{bound_fits, bound_made}
 use Rattle.bounds.proofs.bound_of.Goals as goal
 

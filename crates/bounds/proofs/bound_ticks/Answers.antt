@@ -1,10 +1,6 @@
 -- Over the tasks behind i the longest section so far grows to the bound; those up to i count for nothing.
-use Prim.Native.Nat.{◌-◌, ◌≤◌, ◌<◌}
-use mathlib.Core.Path.{◌≡◌}
 use borrow.Author.Rules.{rules}
-use Rattle.rules.specs.Words.{largest}
-use Rattle.table.specs.Table.{sheet_of}
-use Rattle.bounds.proofs.Bounds.{sound_from, longest_of, bound_begin, bound_turn, bound_end}
+use Rattle.bounds.proofs.Bounds.{sound_from, bound_begin, bound_turn, bound_end}
 use Rattle.bounds.proofs.bound_ticks.Goals as goal
 
 pub loop-j-init : goal.loop-j-init

@@ -1,10 +1,8 @@
 -- Rank by rank the array gets the bounds; behind the last task it stays zero and by nothing.
-use Prim.Native.Nat.{◌-◌, ◌≤◌}
 use native.Mathlib.Omega.{arith}
 use borrow.Author.Rules.{rules}
-use Rattle.rules.specs.Answers.{bound_of, no_bound}
-use Rattle.table.specs.Table.{sheet_of}
-use Rattle.bounds.proofs.Laws.{Filled, filled_none, filled_turn}
+use Rattle.rules.specs.Answers.{no_bound}
+use Rattle.bounds.proofs.Laws.{filled_none, filled_turn}
 use Rattle.bounds.proofs.Bounds.{bounds_end}
 use Rattle.bounds.proofs.bounds_of.Goals as goal
 

@@ -1,9 +1,4 @@
 -- What is summed and the runs still ahead make C at each turn; at the end nothing is ahead.
-use Prim.Native.Nat.{◌+◌, ◌-◌, ◌≤◌}
-use mathlib.Core.Path.{◌≡◌}
-use lib.ListN.{drop}
-use Rattle.rules.specs.Bounds.{runs, cost}
-use Rattle.table.specs.Table.{task_of}
 use Rattle.bounds.proofs.Bounds.{cost_begin, cost_turn, cost_adds, cost_end}
 use borrow.Author.Rules.{rules}
 use Rattle.bounds.proofs.cost_of.Goals as goal

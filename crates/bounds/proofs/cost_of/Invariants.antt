@@ -4,8 +4,6 @@ use mathlib.Core.Path.{◌≡◌}
 use lib.ListN.{drop}
 use Rattle.rules.specs.Bounds.{runs, cost}
 use Rattle.table.specs.Table.{task_of}
-use Rattle.bounds.proofs.Bounds.{cost_begin, cost_turn, cost_adds, cost_end}
-use borrow.Author.Rules.{rules}
 use Rattle.bounds.proofs.cost_of.Given as goal
 
 abbrev pub invariant-loop-k : goal.invariant-loop-k

@@ -1,12 +1,9 @@
 -- Rank by rank the array gets C, which fits 16 bits; past the last task that is 0.
 use Prim.Native.Nat.{◌-◌, ◌≤◌}
-use native.Mathlib.Omega.{arith}
-use borrow.Author.Rules.{rules}
 use Rattle.rules.specs.Sheet.{task_at}
 use Rattle.rules.specs.Bounds.{cost}
 use Rattle.table.specs.Table.{sheet_of}
-use Rattle.bounds.proofs.Laws.{Filled, filled_none, filled_turn, filled_all}
-use Rattle.bounds.proofs.Bounds.{sound_from, cost_fits, cost_at}
+use Rattle.bounds.proofs.Laws.{Filled}
 use Rattle.bounds.proofs.costs_of.Given as goal
 
 abbrev pub invariant-loop-i : goal.invariant-loop-i

@@ -1,5 +1,4 @@
 -- The length counts where the test is passed.
-use borrow.Author.Rules.{rules}
 use Rattle.bounds.proofs.Bounds.{counts, counts_not}
 use Rattle.bounds.proofs.counted_length.Goals as goal
 

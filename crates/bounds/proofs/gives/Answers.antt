@@ -1,5 +1,4 @@
 -- A section gives the bound where it counts and is as long.
-use borrow.Author.Rules.{rules}
 use Rattle.bounds.proofs.Bounds.{gives_so, gives_not}
 use Rattle.bounds.proofs.gives.Goals as goal
 

@@ -1,12 +1,6 @@
 -- The loop stops at the first step whose section gives the bound; where it finds none, none does.
-use Prim.Native.Nat.{ℕ, ◌+◌, ◌-◌, ◌≤◌, ◌<◌}
-use mathlib.Core.Path.{◌≡◌}
-use mathlib.Core.Bool.{false}
 use native.Mathlib.Omega.{arith}
 use borrow.Author.Rules.{rules}
-use lib.ListN.{drop}
-use Rattle.table.specs.Table.{task_of}
-use Rattle.bounds.specs.Steps.{at_most, gives_here}
 use Rattle.bounds.proofs.Bounds.{step_found, step_turn, step_none}
 use Rattle.bounds.proofs.giving_step.Goals as goal
 

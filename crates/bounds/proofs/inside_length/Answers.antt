@@ -1,9 +1,4 @@
 -- What is summed and what is still ahead make the runs inside; the unlock of u ends them, and so does the last step.
-use Prim.Native.Nat.{◌+◌, ◌-◌, ◌≤◌}
-use mathlib.Core.Path.{◌≡◌}
-use lib.ListN.{drop}
-use Rattle.rules.specs.Bounds.{runs, inside}
-use Rattle.table.specs.Table.{task_of}
 use Rattle.bounds.proofs.Bounds.{inside_here, inside_turn, inside_adds, inside_end}
 use borrow.Author.Rules.{rules}
 use Rattle.bounds.proofs.inside_length.Goals as goal

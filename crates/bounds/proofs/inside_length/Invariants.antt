@@ -4,8 +4,6 @@ use mathlib.Core.Path.{◌≡◌}
 use lib.ListN.{drop}
 use Rattle.rules.specs.Bounds.{runs, inside}
 use Rattle.table.specs.Table.{task_of}
-use Rattle.bounds.proofs.Bounds.{inside_here, inside_turn, inside_adds, inside_end}
-use borrow.Author.Rules.{rules}
 use Rattle.bounds.proofs.inside_length.Given as goal
 
 abbrev pub invariant-loop-k : goal.invariant-loop-k

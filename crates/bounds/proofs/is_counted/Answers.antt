@@ -1,7 +1,4 @@
 -- At a lock the ceiling of its semaphore decides; where another step or none stands, no section begins.
-use mathlib.Core.Logic.{⊎_elim}
-use native.Mathlib.Omega.{arith}
-use borrow.Author.Rules.{rules}
 use Rattle.bounds.proofs.Bounds.{lock_below, low_enough, no_section}
 use Rattle.bounds.proofs.is_counted.Goals as goal
 

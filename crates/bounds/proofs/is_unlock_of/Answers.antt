@@ -1,6 +1,5 @@
 -- An unlock is of u where it names u; no other step is an unlock.
 use Rattle.bounds.proofs.Bounds.{names_it, no_unlock}
-use borrow.Author.Rules.{rules}
 use Rattle.bounds.proofs.is_unlock_of.Goals as goal
 
 pub returns-then-is_of : goal.returns-then-is_of

@@ -1,12 +1,10 @@
 -- Position by position, the longest of the sections that begin so far; 64 positions are all.
 use Prim.Native.Nat.{◌-◌, ◌≤◌}
-use mathlib.Core.Path.{◌≡◌, refl}
-use borrow.Author.Rules.{rules}
+use mathlib.Core.Path.{◌≡◌}
 use lib.ListN.{drop}
 use Rattle.rules.specs.Words.{largest}
 use Rattle.table.specs.Table.{task_of}
 use Rattle.bounds.specs.Steps.{at_most, length_here}
-use Rattle.bounds.proofs.Laws.{largest_turn, largest_end}
 use Rattle.bounds.proofs.longest_section.Given as goal
 
 abbrev pub invariant-loop-k : goal.invariant-loop-k

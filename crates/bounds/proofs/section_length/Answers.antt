@@ -1,9 +1,6 @@
 -- At a lock the length behind it counts; where another step or none stands, no section begins.
-use mathlib.Core.Logic.{⊎_elim}
 use mathlib.Core.Bool.{true}
-use native.Mathlib.Omega.{arith}
 use Rattle.bounds.proofs.Bounds.{length_behind, no_section}
-use borrow.Author.Rules.{rules}
 use Rattle.bounds.proofs.section_length.Goals as goal
 
 pub returns-in_default : goal.returns-in_default

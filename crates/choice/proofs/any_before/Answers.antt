@@ -1,13 +1,6 @@
 -- The first step of the kind ends the scan; where it comes to the position, none lies before that.
-use Prim.Native.Nat.{◌-◌, ◌≤◌}
-use mathlib.Core.Path.{◌≡◌}
 use native.Mathlib.Omega.{arith}
-use lib.ListN.{take, drop}
-use Rattle.rules.specs.Words.{any}
-use Rattle.table.specs.Table.{task_of}
-use Rattle.table.specs.Steps.{of_kind}
 use Rattle.choice.proofs.Steps.{scan_starts, scan_end, scan_found, scan_more}
-use borrow.Author.Rules.{rules}
 use Rattle.choice.proofs.any_before.Goals as goal
 
 pub loop-p-init : goal.loop-p-init

@@ -1,6 +1,5 @@
 -- Each return is what rule 3 says of a job that is not free of ceilings.
 use Rattle.choice.proofs.Steps.{scan_whole, goes_no_run, goes_mode, goes_begun, goes_later, goes_fresh}
-use borrow.Author.Rules.{rules}
 use Rattle.choice.proofs.goes_barred.Goals as goal
 
 pub returns-then-not-is_of : goal.returns-then-not-is_of

@@ -1,10 +1,5 @@
 -- Where a job is pending the loop stops at it; where none is, 255.
-use borrow.Author.Rules.{rules}
 use native.Mathlib.Omega.{arith}
-use Prim.Native.Nat.{ℕ, ◌≤◌, ◌<◌, ◌-◌}
-use mathlib.Core.Path.{◌≡◌}
-use mathlib.Core.Bool.{false}
-use Rattle.rules.specs.Record.{record_at}
 use Rattle.choice.proofs.Walks.{top_here, top_none, top_more}
 use Rattle.choice.proofs.top_job.Goals as goal
 

@@ -1,10 +1,7 @@
 -- Semaphore by semaphore, the nearest so far; after the m-th it is the one in the way.
-use borrow.Author.Rules.{rules}
-use native.Mathlib.Omega.{arith}
 use Prim.Native.Nat.{◌≤◌, ◌-◌}
-use mathlib.Core.Path.{◌≡◌, refl}
+use mathlib.Core.Path.{◌≡◌}
 use Rattle.choice.specs.Way.{nearest}
-use Rattle.choice.proofs.Ways.{nearest_more, nearest_all}
 use Rattle.choice.proofs.way_of.Given as goal
 
 abbrev pub invariant-loop-k : goal.invariant-loop-k

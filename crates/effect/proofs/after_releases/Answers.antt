@@ -1,9 +1,7 @@
 -- Task by task, a release changes the record and no release leaves it; after the last these are the records after rule 1.
-use Prim.Native.Nat.{ℕ, ◌≤◌, ◌-◌}
+use Prim.Native.Nat.{ℕ}
 use mathlib.Core.Path.{◌≡◌, ◌∙◌, ap, sym}
-
 use native.Mathlib.Omega.{arith}
-use borrow.Author.Rules.{rules}
 use Rattle.rules.specs.Record.{record_at}
 use Rattle.table.proofs.Laws.{entry_in_lem, lies_from}
 use Rattle.rules.specs.Fields.{with_tasks}
@@ -35,7 +33,7 @@ loop-i-preserved c =
     let bytes = c.args.s.now in (
       omega arith,
       elim c.if-releases_at.branch [
-          then-releases_at w ↦ w.next-is ∙ releases_more bytes c.args.table c.args.st l.next l.i l.invariant.1 c.requires.tabled.few (omega arith) w.released-q.result w.released-q.ensures
+        | then-releases_at w ↦ w.next-is ∙ releases_more bytes c.args.table c.args.st l.next l.i l.invariant.1 c.requires.tabled.few (omega arith) w.released-q.result w.released-q.ensures
         | else-releases_at w ↦ w.next-is ∙ releases_no bytes c.args.table c.args.st l.next l.i l.invariant.1 c.requires.tabled.few (omega arith) (sym (c.releases_at.ensures bytes) ∙ w.if-releases_at.false)
       ],
     )

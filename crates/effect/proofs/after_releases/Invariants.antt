@@ -1,15 +1,9 @@
 -- Task by task, a release changes the record and no release leaves it; after the last these are the records after rule 1.
-use Prim.Native.Nat.{ℕ, ◌≤◌, ◌-◌}
-use mathlib.Core.Path.{◌≡◌, ◌∙◌, ap, sym}
-use mathlib.Core.Logic.{⊎_elim}
-use native.Mathlib.Omega.{arith}
-use borrow.Author.Rules.{rules}
-use Rattle.rules.specs.Record.{record_at}
-use Rattle.table.proofs.Laws.{entry_in_lem, lies_from}
+use Prim.Native.Nat.{◌≤◌, ◌-◌}
+use mathlib.Core.Path.{◌≡◌}
 use Rattle.rules.specs.Fields.{with_tasks}
 use Rattle.effect.specs.Effect.{changed_below}
-use Rattle.record.proofs.Sized.{sixteen}
-use Rattle.effect.proofs.Laws.{releasing, releases_none, releases_all, releases_here, releases_more, releases_no, period_from_lem}
+use Rattle.effect.proofs.Laws.{releasing}
 use Rattle.effect.proofs.after_releases.Given as goal
 
 abbrev pub invariant-loop-i : goal.invariant-loop-i

@@ -1,5 +1,4 @@
 -- 254 and 255 leave every record; a job that runs blocks the pending ones of smaller rank and changes its own record.
-use borrow.Author.Rules.{rules}
 use Rattle.rules.specs.Record.{record_at}
 use Rattle.table.proofs.Laws.{lies_from}
 use Rattle.record.proofs.Sized.{sixteen}

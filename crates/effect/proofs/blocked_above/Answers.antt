@@ -1,7 +1,6 @@
 -- Rank by rank below the runner's, a pending job is blocked once and another record stays.
-use Prim.Native.Nat.{ℕ, ◌≤◌, ◌-◌}
+use Prim.Native.Nat.{ℕ}
 use mathlib.Core.Path.{◌≡◌, ◌∙◌, sym, ap}
-
 use native.Mathlib.Omega.{arith}
 use Rattle.rules.specs.Record.{record_at}
 use Rattle.rules.specs.Fields.{TicksBlocked, with_tasks}
@@ -28,7 +27,7 @@ loop-i-preserved c =
     let l = c.loop-i in (
       omega arith,
       elim c.if-j.branch [
-          then-j w ↦ w.next-is ∙ blocked_more c.args.st l.next l.i l.invariant.1 (omega arith) w.was_blocked-q.result (w.was_blocked-q.ensures ∙ sym (blocked_yes (record_at l.next.tasks l.i) w.if-j.true))
+        | then-j w ↦ w.next-is ∙ blocked_more c.args.st l.next l.i l.invariant.1 (omega arith) w.was_blocked-q.result (w.was_blocked-q.ensures ∙ sym (blocked_yes (record_at l.next.tasks l.i) w.if-j.true))
         | else-j w ↦ w.next-is ∙ blocked_no c.args.st l.next l.i l.invariant.1 (omega arith) w.if-j.false
       ],
     )

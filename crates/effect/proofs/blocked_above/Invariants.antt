@@ -1,13 +1,8 @@
 -- Rank by rank below the runner's, a pending job is blocked once and another record stays.
-use Prim.Native.Nat.{ℕ, ◌≤◌, ◌-◌}
-use mathlib.Core.Path.{◌≡◌, ◌∙◌, sym, ap}
-use mathlib.Core.Logic.{⊎_elim}
-use native.Mathlib.Omega.{arith}
-use Rattle.rules.specs.Record.{record_at}
-use Rattle.rules.specs.Fields.{TicksBlocked, with_tasks}
-use Rattle.effect.specs.Effect.{each_blocked, blocked_once}
-use Rattle.record.proofs.Sized.{sixteen}
-use Rattle.effect.proofs.Laws.{changed_none, blocked_here, blocked_yes, blocked_more, blocked_no}
+use Prim.Native.Nat.{◌≤◌, ◌-◌}
+use mathlib.Core.Path.{◌≡◌}
+use Rattle.rules.specs.Fields.{with_tasks}
+use Rattle.effect.specs.Effect.{each_blocked}
 use Rattle.effect.proofs.blocked_above.Given as goal
 
 abbrev pub invariant-loop-i : goal.invariant-loop-i

@@ -1,5 +1,4 @@
 -- With the switches counted, the state is rule 7's.
-use borrow.Author.Rules.{rules}
 use Rattle.effect.proofs.Laws.{closed_with}
 use Rattle.effect.proofs.closed.Goals as goal
 

@@ -1,6 +1,5 @@
 -- The ticks of the step that stands at a position are the full length there.
 use Rattle.effect.proofs.Laws.{full_told}
-use borrow.Author.Rules.{rules}
 use Rattle.effect.proofs.full_at.Goals as goal
 
 pub returns : goal.returns

@@ -1,5 +1,4 @@
 -- A run that the job stands at has what is left of it; one behind locks has its full length.
-use borrow.Author.Rules.{rules}
 use Rattle.effect.proofs.Laws.{left_kept, left_full}
 use Rattle.effect.proofs.left_of_run.Goals as goal
 

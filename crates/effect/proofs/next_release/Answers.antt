@@ -1,5 +1,4 @@
 -- Before the offset no release lies until it; from it on none lies until a period after the last one.
-use borrow.Author.Rules.{rules}
 use Prim.Native.Nat.{◌-◌}
 use native.Mathlib.Omega.{arith}
 use native.Mathlib.Nat.{mod-lt}

@@ -1,14 +1,10 @@
 -- A step of the kind is passed at each turn, and there are no more than the entry's steps; another kind ends the loop.
-use Prim.Native.Nat.{◌+◌, ◌-◌}
-use mathlib.Core.Path.{◌≡◌, refl}
+use mathlib.Core.Path.{refl}
 use native.Mathlib.Omega.{arith}
-use lib.ListN.{drop}
-use Rattle.rules.specs.Words.{leading}
 use Rattle.table.specs.Table.{task_of}
 use Rattle.table.specs.Steps.{of_kind}
 use Rattle.table.proofs.Laws.{length_steps}
 use Rattle.effect.proofs.Laws.{past_end, past_more, past_inside}
-use borrow.Author.Rules.{rules}
 use Rattle.effect.proofs.past.Goals as goal
 
 pub loop-e-init : goal.loop-e-init

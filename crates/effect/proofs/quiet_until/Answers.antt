@@ -1,11 +1,7 @@
 -- Task by task, none so far has a release before the smallest of their next ones.
-use Prim.Native.Nat.{ℕ, ◌+◌, ◌-◌, ◌≤◌, ◌<◌}
+use Prim.Native.Nat.{◌+◌}
 use native.Mathlib.Omega.{arith}
-use borrow.Author.Rules.{rules}
-use Rattle.rules.specs.Sheet.{task_at}
-use Rattle.table.specs.Table.{sheet_of}
 use Rattle.table.proofs.Laws.{entry_in_lem, tasks_count}
-use Rattle.effect.specs.Effect.{Rests}
 use Rattle.effect.proofs.Laws.{period_from_lem, quiet_more}
 use Rattle.effect.proofs.quiet_until.Goals as goal
 

@@ -1,6 +1,5 @@
 -- The runner's record, with its ticks run.
 use Rattle.rules.specs.Fields.{TicksRun}
-use borrow.Author.Rules.{rules}
 use Rattle.effect.proofs.Laws.{advanced_ran, spent_runner}
 use Rattle.effect.proofs.ran.Goals as goal
 

@@ -1,5 +1,4 @@
 -- 254 and 255 leave the job that ran last; a rank names its own.
-use borrow.Author.Rules.{rules}
 use Rattle.effect.proofs.Laws.{last_stays, last_runner}
 use Rattle.effect.proofs.ran_last.Goals as goal
 

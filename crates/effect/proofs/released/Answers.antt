@@ -1,6 +1,5 @@
 -- A release of a pending job is a miss; another starts a job.
 use Rattle.rules.specs.Fields.{Releases, Misses}
-use borrow.Author.Rules.{rules}
 use Rattle.effect.proofs.Laws.{released_missed, released_started}
 use Rattle.effect.proofs.released.Goals as goal
 

@@ -1,5 +1,4 @@
 -- Before the offset there is no release; from it on the remainder tells.
-use borrow.Author.Rules.{rules}
 use Rattle.table.specs.Table.{task_of}
 use Rattle.effect.proofs.Laws.{releases_early, releases_then}
 use Rattle.effect.proofs.releases_at.Goals as goal

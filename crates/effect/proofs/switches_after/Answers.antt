@@ -1,5 +1,4 @@
 -- The same job again is no switch, another is one more.
-use borrow.Author.Rules.{rules}
 use Rattle.effect.proofs.Laws.{switch_not, switch_more}
 use Rattle.effect.proofs.switches_after.Goals as goal
 

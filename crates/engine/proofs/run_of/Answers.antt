@@ -1,20 +1,19 @@
 -- After k ticks: the state and the trace are the rules', the holders those of the state, and until `due` no task has a release.
-use Prim.Native.Nat.{ℕ, ◌≤◌, ◌<◌, ◌-◌}
+use Prim.Native.Nat.{ℕ, ◌<◌}
 use mathlib.Core.Path.{◌≡◌, ◌∙◌, refl, sym, ap}
 use native.Mathlib.Omega.{arith}
 use lib.ListN.{length, length-set}
-use borrow.Author.Rules.{rules}
 use Rattle.rules.specs.Fields.{start, with_tasks}
 use Rattle.rules.specs.Record.{record_at}
 use Rattle.rules.specs.Choice.{runner_byte}
-use Rattle.rules.specs.Tick.{after_releases, after_runner, closed, runner_of, tick}
+use Rattle.rules.specs.Tick.{after_releases, after_runner, runner_of, tick}
 use Rattle.rules.specs.Run.{after, written}
 use Rattle.rules.specs.declared.State.{State}
 use Rattle.table.specs.Table.{task_of, sheet_of}
 use Rattle.table.proofs.Laws.{task_at_lem, lies_from}
 use Rattle.holders.specs.Holders.{holders}
 use Rattle.holders.proofs.Moves.{holders_start}
-use Rattle.effect.specs.Effect.{runner_named, Quiet}
+use Rattle.effect.specs.Effect.{runner_named}
 use Rattle.effect.proofs.Laws.{releases_quiet, ran_nobody}
 use Rattle.engine.proofs.Ticks.{room, room_after, switches_room, choosable, sized_after, holders_kept, holders_nobody, holders_runner, tick_parts, byte_of, closed_tasks, quiet_on, after_more, written_none, written_more, run_time, run_possible, run_sized}
 use Rattle.engine.proofs.run_of.Goals as goal
@@ -113,16 +112,16 @@ loop-k-preserved c =
       on,
       written_more sheet l.k c.args.trace.now l.trace x inside l.invariant.3 (byte_of sheet l.st a x released c.runner_with-x.ensures ∙ ap (λ (y : State). runner_byte (runner_of sheet y)) l.invariant.2),
       (elim c.if-x-lt16.branch [
-          then-x-lt16 w ↦ w.hs-is
-          ∙ holders_runner bytes sheet c.requires.tabled.reads l.st possible time a released x c.runner_with-x.ensures w.after_runner-ran.result w.after_runner-ran.ensures l.hs l.invariant.4
-          w.if-x-lt16.true (task_of bytes w.entry_at-e.result) (ap (task_of bytes) w.entry_at-e.ensures ∙ sym (task_at_lem bytes c.args.table x)) w.holders_after-held.result w.holders_after-held.ensures
-          ∙ ap (λ (y : State). holders sheet y.tasks) (sym w.st-is)
+        | then-x-lt16 w ↦ w.hs-is
+            ∙ holders_runner bytes sheet c.requires.tabled.reads l.st possible time a released x c.runner_with-x.ensures w.after_runner-ran.result w.after_runner-ran.ensures l.hs l.invariant.4
+            w.if-x-lt16.true (task_of bytes w.entry_at-e.result) (ap (task_of bytes) w.entry_at-e.ensures ∙ sym (task_at_lem bytes c.args.table x)) w.holders_after-held.result w.holders_after-held.ensures
+            ∙ ap (λ (y : State). holders sheet y.tasks) (sym w.st-is)
         | else-x-lt16 w ↦ w.hs-is ∙ holders_nobody bytes sheet c.requires.tabled.reads l.st possible time a released x c.runner_with-x.ensures c.if-x-lt16.st ran l.hs l.invariant.4 w.if-x-lt16.false
       ])
           ∙ ap (holders sheet) (closed_tasks c.if-x-lt16.st next last.result c.closed-next.ensures),
       quiet_on sheet l.st next c.if-due-t.due ticked
           (elim c.if-due-t.branch [
-              then-due-t w ↦ λ i u k f h. w.quiet_until-due.ensures i u k f (omega (arith, w.due-is))
+            | then-due-t w ↦ λ i u k f h. w.quiet_until-due.ensures i u k f (omega (arith, w.due-is))
             | else-due-t w ↦ λ i u k f h. l.invariant.5 i u k (omega arith) (omega (arith, w.due-is))
           ]),
     )

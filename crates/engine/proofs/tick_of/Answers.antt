@@ -1,7 +1,6 @@
 -- One tick is the releases, the choice, the runner's tick and the tick's end.
 use mathlib.Core.Path.{ap}
 use native.Mathlib.Omega.{arith}
-use borrow.Author.Rules.{rules}
 use Rattle.rules.specs.declared.State.{State}
 use Rattle.table.specs.Table.{sheet_of}
 use Rattle.engine.proofs.Ticks.{room, room_after, switches_room, choosable, byte_of, tick_parts}
@@ -30,5 +29,8 @@ returns c =
     let sheet = sheet_of c.args.s.now c.args.table in
     let a = c.after_releases-a in
     let x = c.runner_of-x in
-    let last = c.ran_last-last in record { runner_value = byte_of sheet c.args.st a.result x.result a.ensures x.ensures; state_value = tick_parts sheet c.args.st a.result c.after_runner-b.result c.closed-next.result x.result last.result
-          a.ensures x.ensures last.ensures c.after_runner-b.ensures c.closed-next.ensures }
+    let last = c.ran_last-last in record {
+      runner_value = byte_of sheet c.args.st a.result x.result a.ensures x.ensures;
+      state_value = tick_parts sheet c.args.st a.result c.after_runner-b.result c.closed-next.result x.result last.result
+          a.ensures x.ensures last.ensures c.after_runner-b.ensures c.closed-next.ensures;
+    }

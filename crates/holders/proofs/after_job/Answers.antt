@@ -1,6 +1,5 @@
 -- A pending job has taken the steps before its position; one that is not pending holds nothing.
 use Rattle.holders.proofs.Steps.{job_rests, job_holds}
-use borrow.Author.Rules.{rules}
 use Rattle.holders.proofs.after_job.Goals as goal
 
 pub returns-then-j : goal.returns-then-j

@@ -1,12 +1,7 @@
 -- The locks passed, then those ahead, give the entries of the whole task; other steps change none.
-use Prim.Native.Nat.{◌-◌, ◌≤◌}
-use mathlib.Core.Path.{◌≡◌, refl}
+use mathlib.Core.Path.{refl}
 use native.Mathlib.Omega.{arith}
-use lib.ListN.{drop}
-use Rattle.table.specs.Table.{task_of}
-use Rattle.holders.specs.Holders.{after_steps, only_locks}
 use Rattle.holders.proofs.Steps.{locks_more, locks_same, locks_all}
-use borrow.Author.Rules.{rules}
 use Rattle.holders.proofs.after_locks.Goals as goal
 use Rattle.holders.proofs.after_locks.Goals.{then-is_of, else-is_of}
 

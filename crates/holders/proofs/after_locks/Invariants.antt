@@ -1,13 +1,9 @@
 -- The locks passed, then those ahead, give the entries of the whole task; other steps change none.
 use Prim.Native.Nat.{◌-◌, ◌≤◌}
-use mathlib.Core.Path.{◌≡◌, refl}
-use mathlib.Core.Logic.{⊎_elim}
-use native.Mathlib.Omega.{arith}
+use mathlib.Core.Path.{◌≡◌}
 use lib.ListN.{drop}
 use Rattle.table.specs.Table.{task_of}
 use Rattle.holders.specs.Holders.{after_steps, only_locks}
-use Rattle.holders.proofs.Steps.{locks_more, locks_same, locks_all}
-use borrow.Author.Rules.{rules}
 use Rattle.holders.proofs.after_locks.Given as goal
 
 abbrev pub invariant-loop-p : goal.invariant-loop-p

@@ -1,6 +1,5 @@
 -- A step without a semaphore leaves the entries; another changes the entry of its semaphore alone.
 use Rattle.holders.proofs.Steps.{step_none, step_entry}
-use borrow.Author.Rules.{rules}
 use Rattle.holders.proofs.after_step.Goals as goal
 
 pub returns-then-k-ge16 : goal.returns-then-k-ge16

@@ -1,12 +1,9 @@
 -- The steps passed, then those ahead, give the entries of the whole stretch.
 use Prim.Native.Nat.{◌-◌}
-use mathlib.Core.Path.{◌≡◌, refl}
-use native.Mathlib.Omega.{arith}
+use mathlib.Core.Path.{◌≡◌}
 use lib.ListN.{take, drop}
 use Rattle.table.specs.Table.{task_of}
 use Rattle.holders.specs.Holders.{after_steps}
-use Rattle.holders.proofs.Steps.{after_more, after_all}
-use borrow.Author.Rules.{rules}
 use Rattle.holders.proofs.after_steps.Given as goal
 
 abbrev pub invariant-loop-p : goal.invariant-loop-p

@@ -1,14 +1,7 @@
 -- Rank by rank, the smallest so far that has a lock of each semaphore; after the last these are the ceilings.
-use Prim.Native.Nat.{◌-◌, ◌≤◌}
-use mathlib.Core.Path.{◌≡◌}
-use mathlib.Core.List.{[]}
 use native.Mathlib.Omega.{arith}
-use Rattle.rules.specs.Words.{row}
-use Rattle.table.specs.Table.{sheet_of}
 use Rattle.table.proofs.Laws.{entry_in_lem, lies_from}
-use Rattle.holders.specs.Holders.{first_with}
-use Rattle.holders.proofs.Holders.{has_lock, ranks_none, ceilings_more, ceilings_all}
-use borrow.Author.Rules.{rules}
+use Rattle.holders.proofs.Holders.{ranks_none, ceilings_more, ceilings_all}
 use Rattle.holders.proofs.ceilings_of.Goals as goal
 
 pub loop-i-init : goal.loop-i-init

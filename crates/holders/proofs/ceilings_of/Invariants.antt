@@ -2,13 +2,10 @@
 use Prim.Native.Nat.{◌-◌, ◌≤◌}
 use mathlib.Core.Path.{◌≡◌}
 use mathlib.Core.List.{[]}
-use native.Mathlib.Omega.{arith}
 use Rattle.rules.specs.Words.{row}
 use Rattle.table.specs.Table.{sheet_of}
-use Rattle.table.proofs.Laws.{entry_in_lem, lies_from}
 use Rattle.holders.specs.Holders.{first_with}
-use Rattle.holders.proofs.Holders.{has_lock, ranks_none, ceilings_more, ceilings_all}
-use borrow.Author.Rules.{rules}
+use Rattle.holders.proofs.Holders.{has_lock}
 use Rattle.holders.proofs.ceilings_of.Given as goal
 
 abbrev pub invariant-loop-i : goal.invariant-loop-i

@@ -1,6 +1,5 @@
 -- A lock takes what nobody has, an unlock gives back what is its own; another rank's entry stays.
 use Rattle.holders.proofs.Steps.{lock_takes, lock_leaves, unlock_gives, unlock_leaves}
-use borrow.Author.Rules.{rules}
 use Rattle.holders.proofs.entry_after.Goals as goal
 
 pub returns-then-h-eq255 : goal.returns-then-h-eq255

@@ -1,6 +1,5 @@
 -- A job still pending has passed the steps up to its position, one that completed those up to the end.
 use Rattle.holders.proofs.Steps.{tick_comes, tick_completes}
-use borrow.Author.Rules.{rules}
 use Rattle.holders.proofs.holders_after.Goals as goal
 
 pub returns-then-after : goal.returns-then-after

@@ -1,15 +1,11 @@
 -- Rank by rank, the smallest so far that holds each semaphore; after the last these are the holders.
-use borrow.Author.Rules.{rules}
-use native.Mathlib.Omega.{arith}
 use Prim.Native.Nat.{◌≤◌, ◌-◌}
 use mathlib.Core.Path.{◌≡◌}
 use mathlib.Core.List.{[]}
 use Rattle.rules.specs.Words.{row}
 use Rattle.table.specs.Table.{sheet_of}
-use Rattle.table.proofs.Laws.{entry_in_lem, lies_from}
 use Rattle.rules.specs.Record.{holds}
 use Rattle.holders.specs.Holders.{first_with}
-use Rattle.holders.proofs.Holders.{ranks_none, holders_more, holders_all}
 use Rattle.holders.proofs.holders_of.Given as goal
 
 abbrev pub invariant-loop-i : goal.invariant-loop-i

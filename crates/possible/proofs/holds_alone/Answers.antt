@@ -1,6 +1,5 @@
 -- A job that is not pending holds nothing; of a pending one the entries of its steps must agree with the holders.
 use Rattle.possible.proofs.Holding.{rests_alone, stands_alone}
-use borrow.Author.Rules.{rules}
 use Rattle.possible.proofs.holds_alone.Goals as goal
 
 pub returns-then-not-j : goal.returns-then-not-j

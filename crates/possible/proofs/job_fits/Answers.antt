@@ -1,7 +1,6 @@
 -- A job that is not pending fits where its place is zero; a pending one where it was released before t and stands well.
 use native.Mathlib.Omega.{arith}
 use Rattle.possible.proofs.Fits.{job_rests, job_late, job_stands}
-use borrow.Author.Rules.{rules}
 use Rattle.possible.proofs.job_fits.Goals as goal
 
 pub returns-then-not-j : goal.returns-then-not-j

@@ -1,5 +1,4 @@
 -- 255 and 0 fit; else a rank from n on ends the test, and the release tick decides.
-use borrow.Author.Rules.{rules}
 use Rattle.possible.proofs.Fits.{none_fits, rank_off, else_released}
 use Rattle.possible.proofs.last_fits.Goals as goal
 

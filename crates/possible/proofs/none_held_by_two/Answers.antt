@@ -1,15 +1,7 @@
 -- The first rank that is not the holder of all that it holds ends the loop; where there is none, nothing is held by two.
 use native.Mathlib.Omega.{arith}
-use Prim.Native.Nat.{ℕ, ◌≤◌, ◌<◌, ◌-◌}
-use mathlib.Core.Path.{◌≡◌}
-use mathlib.Core.Bool.{true}
-use Rattle.rules.specs.Sheet.{task_at}
-use Rattle.rules.specs.Record.{record_at}
-use Rattle.table.specs.Table.{sheet_of}
 use Rattle.table.proofs.Laws.{entry_in_lem, lies_from}
-use Rattle.possible.specs.Holding.{holds_alone}
 use Rattle.possible.proofs.Holding.{rank_off, rank_more, ranks_all}
-use borrow.Author.Rules.{rules}
 use Rattle.possible.proofs.none_held_by_two.Goals as goal
 
 pub loop-i-init : goal.loop-i-init

@@ -1,7 +1,6 @@
 -- The first test that fails makes the state impossible; where all before it hold, the last one decides.
 use native.Mathlib.Omega.{arith}
 use Rattle.possible.proofs.Fits.{late, many_switches, last_off, records_off, else_single}
-use borrow.Author.Rules.{rules}
 use Rattle.possible.proofs.possible_state.Goals as goal
 
 pub returns-then-t-gt60000 : goal.returns-then-t-gt60000

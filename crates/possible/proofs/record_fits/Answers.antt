@@ -1,7 +1,6 @@
 -- Counts, ticks blocked or a job that do not fit end the test; below n that is all, and from n on the record must be zero.
 use Rattle.possible.proofs.Fits.{counts_off, present_ends, job_off, inside_fits, past_zero}
 use Rattle.table.proofs.Laws.{lies_from}
-use borrow.Author.Rules.{rules}
 use Rattle.possible.proofs.record_fits.Goals as goal
 
 pub returns-then-not-counts_fit : goal.returns-then-not-counts_fit

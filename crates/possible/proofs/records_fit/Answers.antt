@@ -1,12 +1,6 @@
 -- The first record that does not fit ends the loop; where there is none, the sixteen fit.
 use native.Mathlib.Omega.{arith}
-use Prim.Native.Nat.{ℕ, ◌≤◌, ◌<◌, ◌-◌}
-use mathlib.Core.Path.{◌≡◌}
-use mathlib.Core.Bool.{true}
-use Rattle.rules.specs.Record.{record_at, record_fits}
-use Rattle.table.specs.Table.{sheet_of}
 use Rattle.possible.proofs.Fits.{record_off, record_more, records_all}
-use borrow.Author.Rules.{rules}
 use Rattle.possible.proofs.records_fit.Goals as goal
 
 pub loop-i-init : goal.loop-i-init

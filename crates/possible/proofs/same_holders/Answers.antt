@@ -1,12 +1,6 @@
 -- The first semaphore with another holder ends the loop; where there is none, the sixteen agree.
 use native.Mathlib.Omega.{arith}
-use Prim.Native.Nat.{ℕ, ◌≤◌, ◌<◌, ◌-◌}
-use mathlib.Core.Path.{◌≡◌}
-use mathlib.Core.Bool.{true}
-use lib.ListN.{get_or}
-use Rattle.possible.specs.Holding.{same_holder}
 use Rattle.possible.proofs.Holding.{holder_off, holder_more, holders_all}
-use borrow.Author.Rules.{rules}
 use Rattle.possible.proofs.same_holders.Goals as goal
 
 pub loop-k-init : goal.loop-k-init

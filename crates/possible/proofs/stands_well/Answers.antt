@@ -1,6 +1,5 @@
 -- At a run from 1 to its length is left, at a lock 0; at an unlock or at the end no job stands well.
 use Rattle.possible.proofs.Fits.{stands_run, stands_lock, stands_not}
-use borrow.Author.Rules.{rules}
 use Rattle.possible.proofs.stands_well.Goals as goal
 
 pub returns-then-is_of : goal.returns-then-is_of

@@ -1,5 +1,4 @@
 -- No job, and counts that are zero.
-use borrow.Author.Rules.{rules}
 use Rattle.record.proofs.Laws.{blank_of}
 use Rattle.record.proofs.blank.Goals as goal
 

@@ -1,5 +1,4 @@
 -- Ticks blocked rise, with the larger of the most and the present ones.
-use borrow.Author.Rules.{rules}
 use Rattle.record.proofs.Laws.{blocked_with}
 use Rattle.record.proofs.blocked_up.Goals as goal
 

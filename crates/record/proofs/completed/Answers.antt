@@ -1,5 +1,4 @@
 -- Completions rise, with the larger response.
-use borrow.Author.Rules.{rules}
 use Rattle.record.proofs.Laws.{completed_with}
 use Rattle.record.proofs.completed.Goals as goal
 

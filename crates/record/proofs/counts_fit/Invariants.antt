@@ -1,11 +1,6 @@
 -- One count above t is too many; where the loop finds none, they fit.
 use Prim.Native.Nat.{ℕ, ◌≤◌, ◌<◌, ◌-◌}
-use mathlib.Core.Path.{◌≡◌}
-use native.Mathlib.Omega.{arith}
 use lib.ListN.{get_or}
-use borrow.Author.Rules.{rules}
-use Rattle.rules.proofs.Laws.{and_at}
-use Rattle.record.proofs.Laws.{counted_size, too_many, each_fits}
 use Rattle.record.proofs.counts_fit.Given as goal
 
 abbrev pub invariant-loop-k : goal.invariant-loop-k

@@ -1,5 +1,4 @@
 -- Sixteen records that are zero, and zeros beside them.
-use borrow.Author.Rules.{rules}
 use Rattle.record.proofs.Laws.{no_state_of}
 use Rattle.record.proofs.no_state.Goals as goal
 

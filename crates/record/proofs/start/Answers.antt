@@ -1,5 +1,4 @@
 -- The zero record of a run in which no job has run.
-use borrow.Author.Rules.{rules}
 use Rattle.record.proofs.Laws.{start_of}
 use Rattle.record.proofs.start.Goals as goal
 

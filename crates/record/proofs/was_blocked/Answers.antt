@@ -1,5 +1,4 @@
 -- The job's ticks blocked rise, and the counts with them.
-use borrow.Author.Rules.{rules}
 use Rattle.record.proofs.Laws.{blocked_of_lem}
 use Rattle.record.proofs.was_blocked.Goals as goal
 

@@ -1,6 +1,5 @@
 -- A pending job or a place that is not zero end the test; else the counts decide, each at most 0.
 use Rattle.record.proofs.Laws.{pending_not_zero, place_not_zero, else_counts}
-use borrow.Author.Rules.{rules}
 use Rattle.record.proofs.zero_record.Goals as goal
 
 pub returns-then-j : goal.returns-then-j

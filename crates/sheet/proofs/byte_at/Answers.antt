@@ -1,6 +1,5 @@
 -- The byte read is the rules' byte at that place.
 use mathlib.Core.Path.{refl}
-use borrow.Author.Rules.{rules}
 use Rattle.rules.specs.Reading.{byte}
 use Rattle.sheet.proofs.byte_at.Goals as goal
 

@@ -11,7 +11,6 @@ unfolding why
 returns-in-Begun c =
     c.refusal.ensures ∙ sym (ap (λ (a : HeadRead). why (head_in a)) c.in-Begun.is)
 
-
 pub returns-in-NoHead : goal.returns-in-NoHead
 unfolding why
 returns-in-NoHead c =

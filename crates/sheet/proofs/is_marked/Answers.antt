@@ -1,5 +1,4 @@
 -- The first byte that differs from the mark's ends the test; else the third decides.
-use borrow.Author.Rules.{rules}
 use Rattle.sheet.proofs.Heads.{mark_1, mark_2, mark_3}
 use Rattle.sheet.proofs.is_marked.Goals as goal
 

@@ -1,5 +1,4 @@
 -- 1 to 6 in turn: each return is the rules' answer where the tests before it are passed.
-use borrow.Author.Rules.{rules}
 use Rattle.sheet.proofs.Heads.{head_1, head_2, head_3, head_4, head_5, head_6, head_good}
 use Rattle.sheet.proofs.read_head.Goals as goal
 

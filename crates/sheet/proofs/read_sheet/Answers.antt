@@ -1,5 +1,4 @@
 -- A head that is turned away turns the sheet away; the tasks of another are read behind it.
-use borrow.Author.Rules.{rules}
 use Rattle.sheet.proofs.Sheets.{head_away, head_begun}
 use Rattle.sheet.proofs.read_sheet.Goals as goal
 

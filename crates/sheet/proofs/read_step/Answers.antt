@@ -1,5 +1,4 @@
 -- 11, then 12; a step that passes both is the rules', and the next one stands three bytes on.
-use borrow.Author.Rules.{rules}
 use Rattle.sheet.proofs.Steps.{step_11, step_12, step_placed}
 use Rattle.sheet.proofs.read_step.Goals as goal
 

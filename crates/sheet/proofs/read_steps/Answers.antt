@@ -1,8 +1,6 @@
 -- The steps so far are read and leave the nest so; the first one refused ends it, and sections open at the end are 12.
-use Prim.Native.Nat.{◌-◌}
 use native.Mathlib.Omega.{arith}
-use borrow.Author.Rules.{rules}
-use Rattle.sheet.proofs.Steps.{Going, going_first, steps_refused, placed_here, going_more, sections_open, steps_read}
+use Rattle.sheet.proofs.Steps.{going_first, steps_refused, placed_here, going_more, sections_open, steps_read}
 use Rattle.sheet.proofs.read_steps.Goals as goal
 
 pub loop-k-init : goal.loop-k-init

@@ -1,5 +1,4 @@
 -- A head that is refused refuses the task; the steps of another lie in the bytes and make the whole task.
-use borrow.Author.Rules.{rules}
 use Rattle.sheet.proofs.Tasks.{head_refused, start_here, steps_lie, task_whole}
 use Rattle.sheet.proofs.read_task.Goals as goal
 

@@ -1,5 +1,4 @@
 -- 7, 8, 9, 10 and 7 again in turn: each return is the rules' answer where the tests before it are passed.
-use borrow.Author.Rules.{rules}
 use Rattle.sheet.proofs.Tasks.{period_inside, offset_inside, count_inside, task_7, task_8, task_9, task_10, steps_7, task_good}
 use Rattle.sheet.proofs.read_task_head.Goals as goal
 

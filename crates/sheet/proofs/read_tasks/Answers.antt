@@ -1,8 +1,6 @@
 -- The tasks so far are read; the first one refused turns the sheet away, and bytes behind the last are 13.
-use Prim.Native.Nat.{◌-◌}
 use native.Mathlib.Omega.{arith}
-use borrow.Author.Rules.{rules}
-use Rattle.sheet.proofs.Sheets.{Taking, taking_first, still_near, task_away, taking_more, bytes_left, sheet_read}
+use Rattle.sheet.proofs.Sheets.{taking_first, still_near, task_away, taking_more, bytes_left, sheet_read}
 use Rattle.sheet.proofs.read_tasks.Goals as goal
 
 pub loop-i-init : goal.loop-i-init

@@ -1,7 +1,6 @@
 -- The refusal beside a table that is zero.
 use mathlib.Core.Path.{ap}
 use mathlib.Core.List.{List}
-use borrow.Author.Rules.{rules}
 use Rattle.table.specs.declared.Entry.{Entry}
 use Rattle.sheet.proofs.refused.Goals as goal
 

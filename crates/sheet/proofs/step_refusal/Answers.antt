@@ -11,7 +11,6 @@ unfolding why
 returns-in-Placed c =
     c.refusal.ensures ∙ sym (ap (λ (a : StepRead). why (step_in a)) c.in-Placed.is)
 
-
 pub returns-in-NoStep : goal.returns-in-NoStep
 unfolding why
 returns-in-NoStep c =

@@ -11,7 +11,6 @@ unfolding why
 returns-in-Opened c =
     c.refusal.ensures ∙ sym (ap (λ (a : TaskRead). why (entry_in a)) c.in-Opened.is)
 
-
 pub returns-in-NoTask : goal.returns-in-NoTask
 unfolding why
 returns-in-NoTask c =

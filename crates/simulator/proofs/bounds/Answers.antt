@@ -1,6 +1,5 @@
 -- A refused sheet answers zeros; of another the table and the ceilings are the sheet's, and so are the bounds.
 use Rattle.simulator.proofs.Laws.{no_bounds, all_bounds}
-use borrow.Author.Rules.{rules}
 use Rattle.simulator.proofs.bounds.Goals as goal
 
 pub returns-then-refusal-ne0 : goal.returns-then-refusal-ne0

@@ -1,6 +1,5 @@
 -- A refused sheet answers zeros; of another the table is the sheet's, and so are the ceilings.
 use Rattle.simulator.proofs.Laws.{no_ceilings, all_ceilings}
-use borrow.Author.Rules.{rules}
 use Rattle.simulator.proofs.ceilings.Goals as goal
 
 pub returns-then-refusal-ne0 : goal.returns-then-refusal-ne0

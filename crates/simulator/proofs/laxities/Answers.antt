@@ -1,6 +1,5 @@
 -- A refused sheet answers zeros; of another the table and the ceilings are the sheet's, and so are the laxities.
 use Rattle.simulator.proofs.Laws.{no_laxities, all_laxities}
-use borrow.Author.Rules.{rules}
 use Rattle.simulator.proofs.laxities.Goals as goal
 
 pub returns-then-refusal-ne0 : goal.returns-then-refusal-ne0

@@ -1,8 +1,6 @@
 -- The refusal beside a record that is zero.
 use mathlib.Core.Path.{ap}
-use borrow.Author.Rules.{rules}
 use Rattle.rules.specs.declared.State.{State}
-use Rattle.rules.specs.declared.Ran.{Ran}
 use Rattle.simulator.proofs.not_run.Goals as goal
 
 pub returns : goal.returns

@@ -2,7 +2,6 @@
 use mathlib.Core.Path.{ap, ◌∙◌}
 use Rattle.simulator.specs.Refused.{not_run}
 use Rattle.simulator.proofs.Ticks.{run_away, run_far, run_short, run_made, run_wrote}
-use borrow.Author.Rules.{rules}
 use Rattle.simulator.proofs.run.Goals as goal
 
 pub returns-then-refusal-ne0 : goal.returns-then-refusal-ne0

@@ -3,7 +3,6 @@ use mathlib.Core.Path.{sym, ap, ◌∙◌}
 use Rattle.rules.specs.declared.Refusal.{Refusal}
 use Rattle.simulator.specs.Refused.{not_ticked}
 use Rattle.simulator.proofs.Ticks.{early, tick_away, tick_impossible, tick_late, tick_made}
-use borrow.Author.Rules.{rules}
 use Rattle.simulator.proofs.tick.Goals as goal
 
 pub returns-then-refusal-ne0 : goal.returns-then-refusal-ne0

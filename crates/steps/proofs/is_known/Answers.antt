@@ -1,5 +1,4 @@
 -- A run is known by its length; no kind but 1 to 3 is known; a lock or an unlock is known by its semaphore.
-use borrow.Author.Rules.{rules}
 use Rattle.steps.proofs.Tests.{known_run, known_none, known_below}
 use Rattle.steps.proofs.is_known.Goals as goal
 

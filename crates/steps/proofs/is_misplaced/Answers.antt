@@ -1,5 +1,4 @@
 -- A run is never misplaced; each other return is one of 12's tests on a lock or on an unlock.
-use borrow.Author.Rules.{rules}
 use Rattle.steps.proofs.Nesting.{placed_run, fifth_level, already_held, none_open, not_newest, after_lock_lem}
 use Rattle.steps.proofs.is_misplaced.Goals as goal
 

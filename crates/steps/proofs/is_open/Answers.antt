@@ -1,9 +1,7 @@
 -- From the newest section down, the first that locks x ends the loop; where there is none, none is open.
-use Prim.Native.Nat.{◌≤◌}
-use mathlib.Core.Path.{◌≡◌, refl}
+use mathlib.Core.Path.{refl}
 use native.Mathlib.Omega.{arith}
-use Rattle.rules.specs.Words.{among}
-use Rattle.steps.specs.Nesting.{newest_first, opened}
+use Rattle.steps.specs.Nesting.{opened}
 use Rattle.steps.proofs.Nesting.{open_none, open_here, open_more}
 use Rattle.steps.proofs.is_open.Goals as goal
 

@@ -1,10 +1,8 @@
 -- From the newest section down, the first that locks x ends the loop; where there is none, none is open.
 use Prim.Native.Nat.{◌≤◌}
-use mathlib.Core.Path.{◌≡◌, refl}
-use native.Mathlib.Omega.{arith}
+use mathlib.Core.Path.{◌≡◌}
 use Rattle.rules.specs.Words.{among}
 use Rattle.steps.specs.Nesting.{newest_first, opened}
-use Rattle.steps.proofs.Nesting.{open_none, open_here, open_more}
 use Rattle.steps.proofs.is_open.Given as goal
 
 abbrev pub invariant-loop-k : goal.invariant-loop-k

@@ -1,5 +1,4 @@
 -- A step that is well placed gives the nest behind it: at a lock there is room for one more, at an unlock one is open.
-use borrow.Author.Rules.{rules}
 use Rattle.steps.proofs.Nesting.{room, one_open, nest_run, nest_lock, nest_unlock}
 use Rattle.steps.proofs.nested.Goals as goal
 

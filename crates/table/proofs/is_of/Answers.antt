@@ -1,6 +1,5 @@
 -- A step is of a kind where their numbers are equal.
 use Rattle.table.proofs.Steps.{of_kind_lem}
-use borrow.Author.Rules.{rules}
 use Rattle.table.proofs.is_of.Goals as goal
 
 pub returns : goal.returns

@@ -3,7 +3,6 @@ use mathlib.Core.Path.{refl}
 use native.Mathlib.Omega.{arith}
 use Rattle.rules.specs.Reading.{byte}
 use Rattle.table.proofs.Laws.{past_end, run_here, lock_here, unlock_here}
-use borrow.Author.Rules.{rules}
 use Rattle.table.proofs.step_at.Goals as goal
 
 pub returns-then-count-p : goal.returns-then-count-p

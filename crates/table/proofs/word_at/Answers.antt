@@ -1,5 +1,4 @@
 -- The byte times 256 and the one behind it are the rules' word, and fit 16 bits.
-use borrow.Author.Rules.{rules}
 use native.Mathlib.Omega.{arith}
 use mathlib.Core.Path.{refl}
 use Prim.Native.Nat.{◌+◌}
