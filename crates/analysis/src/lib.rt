@@ -34,6 +34,7 @@ pub fn periods_of(table: Table) -> [u16; 16]
 const RAISE: u64 = 1_099_511_627_776;
 
 // t over a period, rounded up: the quotient, and one more if a remainder is left.
+#[tactic(auto, using(crate::proofs::Laxity::rounded_whole, crate::proofs::Laxity::rounded_fits, crate::proofs::Laxity::rounded_more))]
 fn rounded_up(t: u32, period: u32) -> u32
     requires { (1 ≤ period) × (period < 65536) × (t < 65536) }
     ensures { (result ≡ rounded_up t period) × (result < 131072) }
