@@ -13,8 +13,8 @@ run:
 quick: COUNT = 500
 quick:
 	@bash tests/processor
-	@rt fmt --check
-	@bash tests/proving
+	@rt all check
+	@bash tests/proving lts one_tick calls
 	@python3 tests/rows
 	@SEED=$(SEED) COUNT=$(COUNT) bash tests/compare
 
