@@ -8,88 +8,88 @@ ghost use Rattle.std.specs.Prelude.{◌≤◌, ◌≡◌, length};
 
 use rules::{Bound, Laxity};
 
-fn check(sheet: &[u8]) {
+fn check(rt: &impl Print, sheet: &[u8]) {
     let a = simulator::check(sheet);
     let refusal = a.refusal;
-    wire::print_refusal(refusal);
-    wire::print(b"tasks ", a.tasks as u64);
-    wire::print(b" semaphores ", a.semaphores as u64);
-    wire::print(b" mode ", a.mode as u64);
-    wire::end_line();
+    wire::print_refusal(rt, refusal);
+    wire::print(rt, b"tasks ", a.tasks as u64);
+    wire::print(rt, b" semaphores ", a.semaphores as u64);
+    wire::print(rt, b" mode ", a.mode as u64);
+    wire::end_line(rt);
 }
 
-fn ceilings(sheet: &[u8]) {
+fn ceilings(rt: &impl Print, sheet: &[u8]) {
     let a = simulator::ceilings(sheet);
     let refusal = a.refusal;
     let values = a.ceilings;
-    wire::print_refusal(refusal);
-    wire::print_bytes(b"ceilings", &values);
+    wire::print_refusal(rt, refusal);
+    wire::print_bytes(rt, b"ceilings", &values);
 }
 
-fn print_bounds(values: [Bound; 16]) {
-    wire::write(b"bounds");
+fn print_bounds(rt: &impl Print, values: [Bound; 16]) {
+    wire::write(rt, b"bounds");
     let mut i = 0;
     while i < 16 {
         let x = values[i];
-        wire::print(b" ", x.ticks as u64);
+        wire::print(rt, b" ", x.ticks as u64);
         i += 1;
     }
-    wire::end_line();
+    wire::end_line(rt);
 }
 
 // What gives each of them.
-fn print_bounds_by(values: [Bound; 16]) {
-    wire::write(b"by");
+fn print_bounds_by(rt: &impl Print, values: [Bound; 16]) {
+    wire::write(rt, b"by");
     let mut i = 0;
     while i < 16 {
         let x = values[i];
         let by = x.by;
-        wire::print_by(b" ", by);
+        wire::print_by(rt, b" ", by);
         i += 1;
     }
-    wire::end_line();
+    wire::end_line(rt);
 }
 
-fn bounds(sheet: &[u8]) {
+fn bounds(rt: &impl Print, sheet: &[u8]) {
     let a = simulator::bounds(sheet);
     let refusal = a.refusal;
     let values = a.bounds;
-    wire::print_refusal(refusal);
-    print_bounds(values);
-    print_bounds_by(values);
+    wire::print_refusal(rt, refusal);
+    print_bounds(rt, values);
+    print_bounds_by(rt, values);
 }
 
-fn print_laxities(values: [Laxity; 16]) {
-    wire::write(b"laxities");
+fn print_laxities(rt: &impl Print, values: [Laxity; 16]) {
+    wire::write(rt, b"laxities");
     let mut i = 0;
     while i < 16 {
         let x = values[i];
-        wire::print_laxity(b" ", x);
+        wire::print_laxity(rt, b" ", x);
         i += 1;
     }
-    wire::end_line();
+    wire::end_line(rt);
 }
 
 // What gives the bound in each of them.
-fn print_laxities_by(values: [Laxity; 16]) {
-    wire::write(b"by");
+fn print_laxities_by(rt: &impl Print, values: [Laxity; 16]) {
+    wire::write(rt, b"by");
     let mut i = 0;
     while i < 16 {
         let x = values[i];
         let by = x.by;
-        wire::print_by(b" ", by);
+        wire::print_by(rt, b" ", by);
         i += 1;
     }
-    wire::end_line();
+    wire::end_line(rt);
 }
 
-fn laxities(sheet: &[u8]) {
+fn laxities(rt: &impl Print, sheet: &[u8]) {
     let a = simulator::laxities(sheet);
     let refusal = a.refusal;
     let values = a.laxities;
-    wire::print_refusal(refusal);
-    print_laxities(values);
-    print_laxities_by(values);
+    wire::print_refusal(rt, refusal);
+    print_laxities(rt, values);
+    print_laxities_by(rt, values);
 }
 
 // Every byte is 170, which no runner byte is.
@@ -99,39 +99,39 @@ fn marked_buffer() -> [u8; 65536]
     [170; 65536]
 }
 
-fn run_into(buffer: &mut [u8], sheet: &[u8], horizon: u16) {
+fn run_into(rt: &impl Print, buffer: &mut [u8], sheet: &[u8], horizon: u16) {
     let a = simulator::run(sheet, horizon, buffer);
     let refusal = a.refusal;
     let st = a.state;
-    wire::print_refusal(refusal);
-    wire::print_state(st);
-    wire::print_bytes(b"buffer", buffer);
+    wire::print_refusal(rt, refusal);
+    wire::print_state(rt, st);
+    wire::print_bytes(rt, b"buffer", buffer);
 }
 
-fn run(sheet: &[u8], horizon: u16, room: usize)
+fn run(rt: &impl Print, sheet: &[u8], horizon: u16, room: usize)
     requires { room ≤ 65536 }
 {
     let mut buffer = marked_buffer();
-    run_into(&mut buffer[..room], sheet, horizon);
+    run_into(rt, &mut buffer[..room], sheet, horizon);
 }
 
-fn ask(call: u8, first: u16, room: usize, sheet: &[u8])
+fn ask(rt: &impl Print, call: u8, first: u16, room: usize, sheet: &[u8])
     requires { room ≤ 65536 }
 {
     match call {
-        1 => check(sheet),
-        2 => ceilings(sheet),
-        3 => bounds(sheet),
-        4 => laxities(sheet),
-        5 => run(sheet, first, room),
-        6 => wire::print_state(simulator::start()),
-        _ => wire::write(b"no such call\n"),
+        1 => check(rt, sheet),
+        2 => ceilings(rt, sheet),
+        3 => bounds(rt, sheet),
+        4 => laxities(rt, sheet),
+        5 => run(rt, sheet, first, room),
+        6 => wire::print_state(rt, simulator::start()),
+        _ => wire::write(rt, b"no such call\n"),
     }
 }
 
-fn main() {
-    let mut space = io::large_buffer();
-    let n = io::read_full(0, &mut space);
+fn main(rt: HostRuntime) {
+    let mut space = wire::input_buffer();
+    let n = input::read_full(&mut rt.stdin(), &mut space);
     let input = &space[..n];
     let call = wire::byte_at(input, 0);
     let first = wire::word_at(input, 1);
@@ -139,5 +139,5 @@ fn main() {
     let length = wire::word_at(input, 7) as usize;
     let from = wire::behind(input, 0, 9);
     let end = wire::behind(input, from, length);
-    ask(call, first, room, &input[from..end]);
+    ask(&rt, call, first, room, &input[from..end]);
 }

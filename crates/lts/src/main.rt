@@ -81,11 +81,11 @@ fn out_buffer() -> [u8; ROOM]
 }
 
 // A write that fails, as to a full disk or a closed pipe, ends the program quietly.
-fn main() {
+fn main(rt: HostRuntime) {
     let mut input = input_buffer();
     let mut trace = trace_buffer();
     let mut out = out_buffer();
-    let n = io::read_full(0, &mut input);
+    let n = input::read_full(&mut rt.stdin(), &mut input);
     let end = put_printed(&mut out, &input[..n], &mut trace);
-    io::write_all(1, &out[..end]);
+    let _ = rt.write_all(&out[..end]);
 }

@@ -14,29 +14,29 @@ fn in_place(sheet: &[u8], mut st: State) -> Ticked {
     }
 }
 
-fn print_ticked(a: Ticked) {
+fn print_ticked(rt: &impl Print, a: Ticked) {
     let told = a.told;
     let refusal = told.refusal;
     let next = a.state;
-    wire::print_refusal(refusal);
-    wire::print(b"runner ", told.runner as u64);
-    wire::end_line();
-    wire::print_state(next);
+    wire::print_refusal(rt, refusal);
+    wire::print(rt, b"runner ", told.runner as u64);
+    wire::end_line(rt);
+    wire::print_state(rt, next);
 }
 
-fn answer(sheet: &[u8], st: State) {
-    print_ticked(simulator::tick(sheet, st));
-    wire::write(b"in place\n");
-    print_ticked(in_place(sheet, st));
+fn answer(rt: &impl Print, sheet: &[u8], st: State) {
+    print_ticked(rt, simulator::tick(sheet, st));
+    wire::write(rt, b"in place\n");
+    print_ticked(rt, in_place(sheet, st));
 }
 
-fn main() {
-    let mut buffer = io::large_buffer();
-    let n = io::read_full(0, &mut buffer);
+fn main(rt: HostRuntime) {
+    let mut buffer = wire::input_buffer();
+    let n = input::read_full(&mut rt.stdin(), &mut buffer);
     let input = &buffer[..n];
     let length = wire::word_at(input, 0) as usize;
     let st = wire::state_at(input, 2 + length);
     let from = wire::behind(input, 0, 2);
     let end = wire::behind(input, from, length);
-    answer(&input[from..end], st);
+    answer(&rt, &input[from..end], st);
 }

@@ -40,11 +40,10 @@ fn switches_of(input: &[u8], trace: &mut [u8]) -> u64 {
     repeated(times, horizon, &input[4..], trace)
 }
 
-fn main() {
+fn main(rt: HostRuntime) {
     let mut input = input_buffer();
     let mut trace = trace_buffer();
-    let n = io::read_full(0, &mut input);
+    let n = input::read_full(&mut rt.stdin(), &mut input);
     let switches = switches_of(&input[..n], &mut trace);
-    io::print_decimal(1, switches);
-    io::write_all(1, b"\n");
+    let _ = rt.println(switches);
 }

@@ -5,7 +5,6 @@
 #![tactic(auto)]
 
 ghost use Rattle.std.specs.Prelude.{◌<◌, ◌≤◌, ◌≡◌, length};
-ghost use Rattle.io.specs.Counts.{IsPrefixLen};
 
 use rules::{Bound, Laxity};
 
@@ -65,7 +64,7 @@ fn pair(high: u8, low: u8) -> u8 {
 
 // The bytes that the digits stand for, as far as they go in: how many there are.
 fn bytes_of(hex: &[u8], out: &mut [u8]) -> usize
-    ensures { IsPrefixLen result out.new }
+    ensures { result ≤ length out.new }
 {
     let mut at = 0;
     let mut n = 0;
@@ -85,29 +84,29 @@ fn bytes_of(hex: &[u8], out: &mut [u8]) -> usize
     n
 }
 
-fn print_check(name: &[u8], sheet: &[u8]) {
+fn print_check(rt: &impl Print, name: &[u8], sheet: &[u8]) {
     let c = simulator::check(sheet);
     let refusal = c.refusal;
-    wire::write(name);
+    wire::write(rt, name);
     if refusal.number != 0 {
-        wire::write(b": ");
-        wire::print_refusal(refusal);
+        wire::write(rt, b": ");
+        wire::print_refusal(rt, refusal);
         return;
     }
-    wire::print(b": accepted tasks ", c.tasks as u64);
-    wire::print(b" semaphores ", c.semaphores as u64);
-    wire::print(b" mode ", c.mode as u64);
-    wire::end_line();
+    wire::print(rt, b": accepted tasks ", c.tasks as u64);
+    wire::print(rt, b" semaphores ", c.semaphores as u64);
+    wire::print(rt, b" mode ", c.mode as u64);
+    wire::end_line(rt);
 }
 
-fn print_rank(name: &[u8], rank: usize, bound: Bound, laxity: Laxity) {
-    wire::write(name);
-    wire::print(b": rank ", rank as u64);
-    wire::print(b" bound ", bound.ticks as u64);
-    wire::print_laxity(b" laxity ", laxity);
+fn print_rank(rt: &impl Print, name: &[u8], rank: usize, bound: Bound, laxity: Laxity) {
+    wire::write(rt, name);
+    wire::print(rt, b": rank ", rank as u64);
+    wire::print(rt, b" bound ", bound.ticks as u64);
+    wire::print_laxity(rt, b" laxity ", laxity);
     let by = bound.by;
-    wire::print_by(b" by ", by);
-    wire::end_line();
+    wire::print_by(rt, b" by ", by);
+    wire::end_line(rt);
 }
 
 // The task count, cut at 16.
@@ -120,7 +119,7 @@ fn ranks_of(tasks: u8) -> usize
     16
 }
 
-fn print_analysis(name: &[u8], sheet: &[u8]) {
+fn print_analysis(rt: &impl Print, name: &[u8], sheet: &[u8]) {
     let c = simulator::check(sheet);
     let b = simulator::bounds(sheet);
     let l = simulator::laxities(sheet);
@@ -131,7 +130,7 @@ fn print_analysis(name: &[u8], sheet: &[u8]) {
     while i < n {
         let bound = bs[i];
         let laxity = ls[i];
-        print_rank(name, i, bound, laxity);
+        print_rank(rt, name, i, bound, laxity);
         i += 1;
     }
 }
@@ -154,21 +153,21 @@ fn sheet_buffer() -> [u8; 4096]
 }
 
 // One vector, up to its ';'.
-fn answer(vector: &[u8]) {
+fn answer(rt: &impl Print, vector: &[u8]) {
     let mut sheet = sheet_buffer();
     let equals = find(vector, 0, b'=');
     let asks = find(vector, 0, b'?');
     if equals < vector.len() {
         let n = bytes_of(&vector[equals..], &mut sheet);
-        print_check(&vector[0..name_end(equals)], &sheet[..n]);
+        print_check(rt, &vector[0..name_end(equals)], &sheet[..n]);
     } else {
         let n = bytes_of(&vector[asks..], &mut sheet);
-        print_analysis(&vector[0..name_end(asks)], &sheet[..n]);
+        print_analysis(rt, &vector[0..name_end(asks)], &sheet[..n]);
     }
 }
 
 // What stands at a place, a vector, a comment or a line's end, and where the next one does.
-fn answer_at(input: &[u8], at: usize) -> usize
+fn answer_at(rt: &impl Print, input: &[u8], at: usize) -> usize
     requires { at < length input.now }
     ensures { (at < result) × (result ≤ length input.now) }
 {
@@ -180,19 +179,19 @@ fn answer_at(input: &[u8], at: usize) -> usize
         return find(input, at + 1, b'\n');
     }
     let end = find(input, at + 1, b';');
-    answer(&input[at..end]);
+    answer(rt, &input[at..end]);
     wire::behind(input, end, 1)
 }
 
-fn answer_all(input: &[u8]) {
+fn answer_all(rt: &impl Print, input: &[u8]) {
     let mut at = 0;
     while at < input.len() {
-        at = answer_at(input, at);
+        at = answer_at(rt, input, at);
     }
 }
 
-fn main() {
-    let mut space = io::large_buffer();
-    let n = io::read_full(0, &mut space);
-    answer_all(&space[..n]);
+fn main(rt: HostRuntime) {
+    let mut space = wire::input_buffer();
+    let n = input::read_full(&mut rt.stdin(), &mut space);
+    answer_all(&rt, &space[..n]);
 }

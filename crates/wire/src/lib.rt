@@ -2,10 +2,16 @@
 // the formats.
 #![tactic(auto)]
 
-ghost use Rattle.std.specs.Prelude.{◌<◌, ◌≤◌, length};
+ghost use Rattle.std.specs.Prelude.{◌≡◌, ◌<◌, ◌≤◌, length};
 
-use libc::STDOUT_FILENO;
 use rules::{By, Counts, Job, LastJob, Laxity, Refusal, State, TaskRecord};
+
+// Longer than any input of a test program.
+pub fn input_buffer() -> [u8; 65536]
+    ensures { 65536 ≡ length result }
+{
+    [0; 65536]
+}
 
 // The byte at a place, 0 past the end.
 pub fn byte_at(s: &[u8], at: usize) -> u8 {
@@ -102,104 +108,105 @@ pub fn behind(s: &[u8], from: usize, count: usize) -> usize
     from + count
 }
 
-pub fn write(text: &[u8]) {
-    io::write_all(STDOUT_FILENO, text);
+// A write that fails is passed over, as in the printing program.
+pub fn write(rt: &impl Print, text: &[u8]) {
+    let _ = rt.write_all(text);
 }
 
-pub fn print(name: &[u8], n: u64) {
-    write(name);
-    io::print_decimal(STDOUT_FILENO, n);
+pub fn print(rt: &impl Print, name: &[u8], n: u64) {
+    write(rt, name);
+    let _ = rt.print(n);
 }
 
-pub fn end_line() {
-    write(b"\n");
+pub fn end_line(rt: &impl Print) {
+    write(rt, b"\n");
 }
 
 // Nothing where the call was not turned away.
-pub fn print_refusal(x: Refusal) {
+pub fn print_refusal(rt: &impl Print, x: Refusal) {
     if x.number == 0 {
         return;
     }
-    print(b"refused ", x.number as u64);
-    print(b" task ", x.rank as u64);
-    print(b" step ", x.step as u64);
-    end_line();
+    print(rt, b"refused ", x.number as u64);
+    print(rt, b" task ", x.rank as u64);
+    print(rt, b" step ", x.step as u64);
+    end_line(rt);
 }
 
-fn print_job(j: Job) {
+fn print_job(rt: &impl Print, j: Job) {
     let mut pending = 0;
     if j.pending {
         pending = 1;
     }
-    print(b" pending ", pending);
-    print(b" position ", j.position as u64);
-    print(b" left ", j.left as u64);
-    print(b" release ", j.release as u64);
-    print(b" present ", j.present as u64);
+    print(rt, b" pending ", pending);
+    print(rt, b" position ", j.position as u64);
+    print(rt, b" left ", j.left as u64);
+    print(rt, b" release ", j.release as u64);
+    print(rt, b" present ", j.present as u64);
 }
 
-fn print_counts(c: Counts) {
-    print(b" releases ", c.releases as u64);
-    print(b" done ", c.completions as u64);
-    print(b" missed ", c.misses as u64);
-    print(b" ran ", c.ran as u64);
-    print(b" blocked ", c.blocked as u64);
-    print(b" worst ", c.worst as u64);
-    print(b" most ", c.most as u64);
+fn print_counts(rt: &impl Print, c: Counts) {
+    print(rt, b" releases ", c.releases as u64);
+    print(rt, b" done ", c.completions as u64);
+    print(rt, b" missed ", c.misses as u64);
+    print(rt, b" ran ", c.ran as u64);
+    print(rt, b" blocked ", c.blocked as u64);
+    print(rt, b" worst ", c.worst as u64);
+    print(rt, b" most ", c.most as u64);
 }
 
-fn print_last(j: LastJob) {
-    print(b" last ", j.rank as u64);
-    print(b" ", j.release as u64);
+fn print_last(rt: &impl Print, j: LastJob) {
+    print(rt, b" last ", j.rank as u64);
+    print(rt, b" ", j.release as u64);
 }
 
-pub fn print_state(st: State) {
-    print(b"t ", st.t as u64);
-    print(b" switches ", st.switches as u64);
-    print_last(st.last);
-    end_line();
+pub fn print_state(rt: &impl Print, st: State) {
+    print(rt, b"t ", st.t as u64);
+    print(rt, b" switches ", st.switches as u64);
+    print_last(rt, st.last);
+    end_line(rt);
     let mut i = 0;
     while i < 16 {
         let r = st.tasks[i];
         let j = r.job;
         let c = r.counts;
-        print(b"", i as u64);
-        print_job(j);
-        print_counts(c);
-        end_line();
+        print(rt, b"", i as u64);
+        print_job(rt, j);
+        print_counts(rt, c);
+        end_line(rt);
         i += 1;
     }
 }
 
-pub fn print_laxity(name: &[u8], x: Laxity) {
-    write(name);
+pub fn print_laxity(rt: &impl Print, name: &[u8], x: Laxity) {
+    write(rt, name);
     if x.below {
-        write(b"-");
+        write(rt, b"-");
     }
-    print(b"", x.size as u64);
+    print(rt, b"", x.size as u64);
 }
 
 // What gives a bound: rank and lock step, or nothing.
-pub fn print_by(name: &[u8], by: By) {
-    write(name);
+pub fn print_by(rt: &impl Print, name: &[u8], by: By) {
+    write(rt, name);
     let By::Section(rank, step) = by else {
-        write(b"-");
+        write(rt, b"-");
         return;
     };
-    print(b"", rank as u64);
-    print(b"/", step as u64);
+    print(rt, b"", rank as u64);
+    print(rt, b"/", step as u64);
 }
 
 fn wide(x: u8) -> u64 {
     x as u64
 }
 
-pub fn print_bytes(name: &[u8], bytes: &[u8]) {
-    write(name);
+pub fn print_bytes(rt: &impl Print, name: &[u8], bytes: &[u8]) {
+    write(rt, name);
     let mut i = 0;
     while i < bytes.len() {
-        print(b" ", wide(bytes[i]));
+        print(rt, b" ", wide(bytes[i]));
         i += 1;
     }
-    end_line();
+    end_line(rt);
 }
