@@ -1,7 +1,7 @@
 -- THE PRINTED FORM: what the printing program writes for the bytes that it reads.
-use Rattle.std.specs.Prelude.{ℕ, length, take, drop, replicate}
+use Rattle.std.specs.Prelude.{ℕ, length, take, drop, replicate, if◌then◌else◌}
 use mathlib.Core.List.{List, ◌++◌, flat_map}
-use Rattle.rules.specs.Words.{if◌then◌else◌, ◌<?◌, row}
+use Rattle.rules.specs.Words.{◌<?◌, row}
 use Rattle.rules.specs.Reading.{refusal, word}
 use Rattle.rules.specs.Fields.{start}
 use Rattle.rules.specs.Record.{record_at}

@@ -1,8 +1,8 @@
 -- THE WORDS of the printed form: texts, numbers, fields, laxities, what gives a bound, and ticks.
-use Rattle.std.specs.Prelude.{ℕ, zero, suc, ◌+◌, ◌/◌, ◌%◌, List, [], ◌∷◌, ◌++◌}
+use Rattle.std.specs.Prelude.{ℕ, zero, suc, ◌+◌, ◌/◌, ◌%◌, List, [], ◌∷◌, ◌++◌, if◌then◌else◌}
 use Prim.Native.Char.{code}
 use Prim.Native.String.{String, [] as none, ◌∷◌ as ◌then◌}
-use Rattle.rules.specs.Words.{if◌then◌else◌, ◌<?◌, ◌=?◌}
+use Rattle.rules.specs.Words.{◌<?◌, ◌=?◌}
 use Rattle.rules.specs.declared.By.{By}
 use Rattle.rules.specs.declared.Laxity.{Laxity}
 
