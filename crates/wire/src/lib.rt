@@ -6,7 +6,7 @@ ghost use Rattle.std.specs.Prelude.{◌≡◌, ◌<◌, ◌≤◌, length};
 
 use rules::{By, Counts, Job, LastJob, Laxity, Refusal, State, TaskRecord};
 
-// Longer than any input of a test program.
+// So many bytes of an input are taken; no test asks for more.
 pub fn input_buffer() -> [u8; 65536]
     ensures { 65536 ≡ length result }
 {
