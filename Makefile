@@ -3,7 +3,7 @@ COUNT ?= 6000
 
 .PHONY: run quick test compare bench
 
-# Builds the printing program, proving all of it, a line for each crate, and prints case A.
+# Builds the printing program, proving all of it, and prints case A.
 run:
 	@bash tests/proving lts
 	@bash tests/processor
@@ -28,7 +28,7 @@ compare:
 	@bash tests/proving lts one_tick calls
 	@SEED=$(SEED) COUNT=$(COUNT) bash tests/compare
 
-# Speed beside the second simulator, in one run; on another processor than x86-64, of programs built for that one.
+# Speed beside the second simulator, in one run.
 bench:
 	@bash tests/processor
 	@bash tests/proving lts repeat
