@@ -21,6 +21,12 @@ was_blocked-q-requires c =
     let room = c.requires.all_below l.i (omega arith) in
     rw (blocked_here c.args.st l.next l.i l.invariant.1 (omega arith)) record { blocked_bound = room.0 TicksBlocked; present_bound = room.1 }
 
+pub returns : goal.returns
+returns c =
+    let a = c.args in
+    let e : c.loop-i.i ≡ a.x = omega arith in
+    c.loop-i.invariant.1 ∙ ap (λ (k : ℕ). with_tasks a.st (each_blocked k a.st.tasks)) e
+
 pub loop-i-preserved : goal.loop-i-preserved
 unfolding record_at
 loop-i-preserved c =
@@ -31,9 +37,3 @@ loop-i-preserved c =
         | else-j w ↦ w.next-is ∙ blocked_no c.args.st l.next l.i l.invariant.1 (omega arith) w.if-j.false
       ],
     )
-
-pub returns : goal.returns
-returns c =
-    let a = c.args in
-    let e : c.loop-i.i ≡ a.x = omega arith in
-    c.loop-i.invariant.1 ∙ ap (λ (k : ℕ). with_tasks a.st (each_blocked k a.st.tasks)) e
