@@ -1,3 +1,5 @@
+pub mod Rounded
+pub mod Ranks
 pub mod Integers
 pub mod Laxity
 pub mod Counted

@@ -1,2 +1,4 @@
-pub mod Laws
+pub mod Steps
+pub mod Counted
 pub mod Bounds
+pub mod Rows

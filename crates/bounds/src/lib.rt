@@ -1,234 +1,129 @@
 // C, the sections and the bounds of a sheet's tasks, proved equal to rules/specs/Bounds.antt.
 #![tactic(auto)]
 
-ghost use Rattle.std.specs.Prelude.{◌≡◌, ◌+◌, ◌<◌, max, drop};
-ghost use Rattle.rules.specs.Words.{row, largest};
-ghost use Rattle.rules.specs.Sheet.{task_at};
-ghost use Rattle.rules.specs.Choice.{ceiling};
-ghost use Rattle.rules.specs.Bounds.{runs, inside, section_length, begins, bound, bound_by, cost};
+ghost use Rattle.std.specs.Prelude.{◌≡◌, ◌+◌, ◌^◌, ◌<◌, drop, length, map};
+ghost use Rattle.rules.specs.Bounds.{runs, inside, bound, bound_by, cost};
 ghost use Rattle.rules.specs.Answers.{by_rank, bound_of, no_bound};
-ghost use Rattle.table.specs.Table.{task_of, sheet_of, Tabled};
-ghost use Rattle.table.specs.Steps.{here_is};
-ghost use Rattle.bounds.specs.Steps.{is_unlock_of, at_most, length_here, gives_here, first_giving, Sound};
+ghost use Rattle.table.specs.Steps.{meant};
+ghost use Rattle.bounds.specs.Sections.{counted_section, longest_section, first_giving};
 
-use rules::{Bound, By};
-use table::{Entry, Here, Kind, Table};
+use holders::Plan;
+use rules::{Bound, Section};
+use std::array;
+use table::{Step, Task};
 
-// The larger of two.
-pub fn larger(a: u64, b: u64) -> u64
-    ensures { result ≡ max a b }
+// The sum of the runs among steps.
+fn runs(steps: &[Step]) -> u16
+    requires { runs (map meant steps.now) < 2 ^ 16 }
+    ensures { result ≡ runs (map meant steps.now) }
 {
-    if a < b {
-        return b;
-    }
-    a
-}
-
-// Is a step the unlock of semaphore `u`?
-fn is_unlock_of(u: u16, h: Here) -> bool
-    ensures { result ≡ here_is (is_unlock_of u) h }
-{
-    if table::is_of(h, Kind::Unlock) {
-        return table::semaphore_of(h) == u as usize;
-    }
-    false
+    steps.iter().map(|x| x.ticks()).sum()
 }
 
 // C is the sum of a task's runs.
-fn cost_of(s: &[u8], e: Entry) -> u64
-    requires { Sound s.now e }
-    ensures { result ≡ cost (task_of s.now e) }
+#[tactic(auto, using(crate::proofs::Steps::runs_fit), unfolding(rules::specs::Bounds::cost))]
+pub fn cost_of(task: &Task) -> u16
+    ensures { result ≡ cost task.now }
 {
-    let count = e.count as usize;
-    let mut sum: u64 = 0;
-    let mut k: usize = 0;
-    while k < count {
-        let h = table::step_at(s, e, k);
-        sum += table::ticks_of(h) as u64;
-        k += 1;
-    }
-    sum
+    runs(task.steps())
 }
 
-// C of each rank; 0 past the last.
-pub fn costs_of(s: &[u8], table: Table) -> [u16; 16]
-    requires { Tabled s.now table }
-    ensures { result ≡ row 16 (λ i. cost (task_at (sheet_of s.now table) i)) }
+// What stands inside a section of semaphore u: the steps behind its lock up to the unlock.
+fn inside(u: u16, steps: &[Step]) -> &[Step]
+    ensures { map meant result.now ≡ inside u (map meant steps.now) }
 {
-    let mut costs: [u16; 16] = [0; 16];
-    let mut i: usize = 0;
-    while i < 16 {
-        let e = table::entry_at(table, i);
-        let c = cost_of(s, e);
-        costs[i] = c as u16;
-        i += 1;
-    }
-    costs
+    let end = steps
+        .iter()
+        .position(|x| *x == Step::Unlock(u))
+        .unwrap_or(steps.len());
+    &steps[..end]
 }
 
-// The runs from a position on up to the unlock of semaphore `u`.
-fn inside_length(s: &[u8], e: Entry, u: u16, from: usize) -> u64
-    requires { Sound s.now e }
-    ensures { result ≡ runs (inside u (drop from (task_of s.now e).steps)) }
+// The length of the section that begins at a position, if its semaphore has a ceiling of at most i.
+fn counted_section(plan: &Plan, task: &Task, i: usize, k: usize) -> Option<u16>
+    ensures { result ≡ counted_section plan.now i (drop k task.now.steps) }
 {
-    let count = e.count as usize;
-    let mut sum: u64 = 0;
-    let mut k = from;
-    while k < count {
-        let h = table::step_at(s, e, k);
-        if is_unlock_of(u, h) {
-            return sum;
-        }
-        sum += table::ticks_of(h) as u64;
-        k += 1;
-    }
-    sum
-}
-
-// The length of the section that begins at a position; 0 where none does.
-fn section_length(s: &[u8], e: Entry, k: usize) -> u64
-    requires { (k < 64) × Sound s.now e }
-    ensures { result ≡ section_length (drop k (task_of s.now e).steps) }
-{
-    let h = table::step_at(s, e, k);
-    let Here::Lock(u) = h else {
-        return 0;
+    let steps = task.steps();
+    let x = steps.get(k)?;
+    let Step::Lock(u) = *x else {
+        return None;
     };
-    inside_length(s, e, u, k + 1)
-}
-
-// Does a section begin at a position whose semaphore has a ceiling of at most i?
-fn is_counted(s: &[u8], e: Entry, cs: [u8; 16], i: usize, k: usize) -> bool
-    requires { (k < 64) × Sound s.now e }
-    ensures { result ≡ begins (at_most cs i) (drop k (task_of s.now e).steps) }
-{
-    let h = table::step_at(s, e, k);
-    let Here::Lock(u) = h else {
-        return false;
-    };
-    let at = u as usize;
-    let c = cs[at] as usize;
-    c <= i
-}
-
-// The length of such a section; 0 where none begins.
-fn counted_length(s: &[u8], e: Entry, cs: [u8; 16], i: usize, k: usize) -> u64
-    requires { (k < 64) × Sound s.now e }
-    ensures { result ≡ length_here (at_most cs i) (drop k (task_of s.now e).steps) }
-{
-    if is_counted(s, e, cs, i, k) {
-        return section_length(s, e, k);
+    let ceiling = plan.ceilings()[usize::from(u)];
+    if usize::from(ceiling) <= i {
+        return Some(runs(inside(u, &steps[k + 1..])));
     }
-    0
+    None
 }
 
-// The longest of a task's sections whose semaphores have a ceiling of at most i; 0 if none.
-fn longest_section(s: &[u8], e: Entry, cs: [u8; 16], i: usize) -> u64
-    requires { Sound s.now e }
-    ensures { result ≡ largest 64 (λ k. length_here (at_most cs i) (drop k (task_of s.now e).steps)) }
+// The longest of a task's sections that the bound of task i counts; 0 if none.
+fn longest_section(plan: &Plan, task: &Task, i: usize) -> u16
+    ensures { result ≡ longest_section plan.now i task.now.steps }
 {
-    let mut longest: u64 = 0;
-    let mut k: usize = 0;
-    while k < 64 {
-        let length = counted_length(s, e, cs, i, k);
-        longest = larger(longest, length);
-        k += 1;
+    let mut longest = 0;
+    for k in 0..task.count() {
+        longest = longest.max(counted_section(plan, task, i, k).unwrap_or(0));
     }
     longest
 }
 
 // The bound B of task i: over the tasks of greater rank.
-fn bound_ticks(s: &[u8], table: Table, cs: [u8; 16], i: usize) -> u64
-    requires i_bound { (i < 16) × Tabled s.now table }
-    requires cs_value { cs ≡ row 16 (ceiling (sheet_of s.now table)) }
-    ensures { result ≡ bound (sheet_of s.now table) i }
+fn bound_ticks(plan: &Plan, i: usize) -> u16
+    requires { i < length plan.now.tasks }
+    ensures { result ≡ bound plan.now i }
 {
-    let mut longest: u64 = 0;
-    let mut j: usize = i + 1;
-    while j < 16 {
-        let e = table::entry_at(table, j);
-        let length = longest_section(s, e, cs, i);
-        longest = larger(longest, length);
-        j += 1;
+    let mut longest = 0;
+    for task in &plan.table().tasks()[i + 1..] {
+        longest = longest.max(longest_section(plan, task, i));
     }
     longest
 }
 
-// Does the section at a position give a bound of so many ticks?
-fn gives(s: &[u8], e: Entry, cs: [u8; 16], i: usize, ticks: u64, k: usize) -> bool
-    requires { (k < 64) × Sound s.now e }
-    ensures { result ≡ gives_here (at_most cs i) ticks (drop k (task_of s.now e).steps) }
+// The first lock step of a task whose section gives a bound of so many ticks to task i, if one does.
+fn giving_step(plan: &Plan, task: &Task, i: usize, ticks: u16) -> Option<u8>
+    ensures { result ≡ first_giving plan.now i ticks task.now.steps }
 {
-    if is_counted(s, e, cs, i, k) {
-        return section_length(s, e, k) == ticks;
-    }
-    false
-}
-
-// The first lock step of a task whose section gives it; 255 if none does.
-fn giving_step(s: &[u8], e: Entry, cs: [u8; 16], i: usize, ticks: u64) -> u8
-    requires { Sound s.now e }
-    ensures { result ≡ first_giving (at_most cs i) ticks (task_of s.now e).steps }
-{
-    let mut k: usize = 0;
-    while k < 64 {
-        if gives(s, e, cs, i, ticks, k) {
-            return k as u8;
-        }
-        k += 1;
-    }
-    255
+    let count = task.count() as u8;
+    (0..count).find(|k| counted_section(plan, task, i, usize::from(*k)) == Some(ticks))
 }
 
 // What gives the bound of task i: the first section of that length, by rank and then by step.
-fn bound_by(s: &[u8], table: Table, cs: [u8; 16], i: usize, ticks: u64) -> By
-    requires i_bound { (i < 16) × Tabled s.now table }
-    requires cs_value { (cs ≡ row 16 (ceiling (sheet_of s.now table))) × (ticks ≡ bound (sheet_of s.now table) i) }
-    ensures { result ≡ bound_by (sheet_of s.now table) i }
+fn bound_by(plan: &Plan, i: usize, ticks: u16) -> Option<Section>
+    requires rank { i < length plan.now.tasks }
+    requires value { ticks ≡ bound plan.now i }
+    ensures { result ≡ bound_by plan.now i }
 {
-    let mut rank: usize = i + 1;
-    while rank < 16 {
-        let e = table::entry_at(table, rank);
-        let step = giving_step(s, e, cs, i, ticks);
-        if step < 255 {
-            return By::Section(rank as u8, step);
+    let table = plan.table();
+    let n = table.len();
+    for rank in i + 1..n {
+        if let Some(step) = giving_step(plan, table.task(rank), i, ticks) {
+            return Some(Section {
+                rank: rank as u8,
+                step,
+            });
         }
-        rank += 1;
     }
-    By::Nothing
+    None
 }
 
 // The bound of task i, and what gives it.
-fn bound_of(s: &[u8], table: Table, cs: [u8; 16], i: usize) -> Bound
-    requires i_bound { (i < 16) × Tabled s.now table }
-    requires cs_value { cs ≡ row 16 (ceiling (sheet_of s.now table)) }
-    ensures { result ≡ bound_of (sheet_of s.now table) i }
+#[tactic(auto, unfolding(rules::specs::Answers::bound_of))]
+fn bound_of(plan: &Plan, i: usize) -> Bound
+    requires { i < length plan.now.tasks }
+    ensures { result ≡ bound_of plan.now i }
 {
-    let ticks = bound_ticks(s, table, cs, i);
-    let by = bound_by(s, table, cs, i, ticks);
-    Bound {
-        ticks: ticks as u16,
-        by: by,
-    }
+    let ticks = bound_ticks(plan, i);
+    let by = bound_by(plan, i, ticks);
+    Bound { ticks, by }
 }
 
 // The bound of each task; zero and by nothing behind them.
-pub fn bounds_of(s: &[u8], table: Table, cs: [u8; 16]) -> [Bound; 16]
-    requires tabled { Tabled s.now table }
-    requires cs_value { cs ≡ row 16 (ceiling (sheet_of s.now table)) }
-    ensures { result ≡ by_rank no_bound bound_of (sheet_of s.now table) }
+pub fn bounds_of(plan: &Plan) -> [Bound; 16]
+    ensures { result ≡ by_rank no_bound bound_of plan.now }
 {
-    let n = table.n as usize;
-    let none = Bound {
-        ticks: 0,
-        by: By::Nothing,
-    };
-    let mut bounds = [none; 16];
-    let mut i: usize = 0;
-    while i < n {
-        let b = bound_of(s, table, cs, i);
-        bounds[i] = b;
-        i += 1;
-    }
-    bounds
+    let n = plan.table().len();
+    array::from_fn(|i| if i < n {
+        bound_of(plan, i)
+    } else {
+        Bound::default()
+    })
 }

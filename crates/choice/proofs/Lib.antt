@@ -1,4 +1,5 @@
 pub mod Steps
+pub mod Tops
 pub mod Ways
 pub mod Walks
 pub mod Choosable

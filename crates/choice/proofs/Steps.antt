@@ -1,54 +1,24 @@
--- Laws of rule 3 for a job that is not free of ceilings: a scan for a kind of step, and what stands at the job's position.
-use Prim.Native.Nat.{ℕ, ◌+◌, ◌-◌, ◌≤◌, ◌<◌}
-use mathlib.Core.Path.{◌≡◌, refl, sym, ap, ◌∙◌}
-use mathlib.Core.Logic.{⊎_elim}
-use mathlib.Core.List.{List}
-use mathlib.Core.Bool.{Bool, true, false, not, ◌&&◌, ◌||◌, or-false}
-use native.Mathlib.Omega.{arith}
-use lib.ListN.{take, drop}
-use lib.Seq.{take_all, drop-drop}
-use borrow.Author.Tests.{eq-eqb, ne_eqb, not-true, not-false}
-use Rattle.std.specs.Prelude.{if◌then◌else◌}
-use Rattle.rules.specs.Words.{◌=?◌, any}
-use Rattle.rules.specs.Sheet.{Step, Task, is_run, is_lock}
+-- Laws of rule 3 for a job that is not free of ceilings: what stands at the job's position, and a scan for a kind of step.
+use Rattle.std.proofs.Common.{ℕ, ◌≡◌, refl, sym, ap, ◌∙◌, ⊎_elim, List, [], ◌∷◌, Bool, true, false, not, ◌&&◌, ◌||◌, drop, take, map, Option, Some, None, if◌then◌else◌}
+use Rattle.std.specs.List.{list_any}
+use mathlib.Core.Bool.{or-false}
+use Rattle.rules.specs.Words.{◌=?◌, ◌⇒◌, any}
+use Rattle.rules.specs.Sheet.{Step as Rules·Step, Task, is_run, is_lock}
 use Rattle.rules.specs.Record.{behind, ahead}
-use Rattle.rules.specs.Choice.{at_run, fresh, goes}
+use Rattle.rules.specs.Choice.{full, at_run, fresh, goes}
 use Rattle.rules.specs.declared.Job.{Job}
-use Rattle.rules.proofs.Laws.{sure, and_no, and_true}
-use Rattle.table.specs.Table.{here, task_of}
-use Rattle.table.specs.Steps.{here_is, ticks_of}
-use Rattle.table.specs.declared.Entry.{Entry}
-use Rattle.table.specs.declared.Here.{Here}
-use Rattle.table.proofs.Laws.{left_more, left_none, length_steps}
-use Rattle.table.proofs.Steps.{any_first, ticks_here}
+use Rattle.rules.proofs.Laws.{sure, and_no}
+use Rattle.table.specs.Steps.{meant, here, here_is}
+use Rattle.table.specs.declared.Step.{Step}
+use Rattle.table.proofs.Steps.{any_first, full_here}
 
--- a scan for a kind of step
-pub scan_starts : (test : Step → Bool) (steps : List Step) (q : ℕ) → any test (take (q - 0) steps) ≡ any test (take q steps)
-scan_starts test steps q = let e : q - 0 ≡ q = omega arith in rw e refl
-
-module _ (test : Step → Bool) (steps : List Step) (p q : ℕ) (found : Bool) (inv : any test (take (q - p) (drop p steps)) ≡ found) where
-  pub scan_end : q ≤ p → false ≡ found
-  unfolding any
-  scan_end l = sym (ap (any test) (left_none steps p q l)) ∙ inv
-
-  module _ (l : p < q) (x : Here) (e : x ≡ here (drop p steps)) (b : Bool) (u : b ≡ here_is test x) where
-    scan_step : (b || any test (take (q - (p + 1)) (drop (p + 1) steps))) ≡ found
-    scan_step = rw (u, e, ← drop-drop 1 p steps) (sym (any_first test (q - (p + 1)) (drop p steps)) ∙ sym (ap (any test) (left_more steps p q l)) ∙ inv)
-
-    pub scan_found : b ≡ true → true ≡ found
-    scan_found h = rw h at scan_step
-
-    pub scan_more : b ≡ false → any test (take (q - (p + 1)) (drop (p + 1) steps)) ≡ found
-    scan_more h = rw h at scan_step
-
--- before the position behind the last step lies the whole program
-pub scan_whole : (test : Step → Bool) (bytes : List ℕ) (e : Entry) (b : Bool) → b ≡ any test (take e.count (task_of bytes e).steps) → b ≡ any test (task_of bytes e).steps
-scan_whole test bytes e b u =
-    let n = length_steps bytes e in
-    u ∙ ap (any test) (take_all e.count (task_of bytes e).steps (omega arith))
+-- steps of the table that pass a test are steps that pass it
+pub any_meant : (test : Rules·Step → Bool) (steps : List Step) → list_any (λ x. test (meant x)) steps ≡ any test (map meant steps)
+unfolding any
+any_meant test [] = refl
+any_meant test (x ∷ steps) = ap (λ (b : Bool). test (meant x) || b) (any_meant test steps)
 
 module _ (mode : ℕ) (task : Task) (j : Job) where
-  -- not free of ceilings
   barred_goes : goes mode task j false ≡ (not (mode =? 1 && fresh task j && any is_lock task.steps) && at_run task j)
   unfolding goes
   barred_goes = go (mode =? 1 && fresh task j && any is_lock task.steps) (at_run task j)
@@ -57,43 +27,45 @@ module _ (mode : ℕ) (task : Task) (j : Job) where
       go true b = refl
       go false b = refl
 
-  -- by what stands at its position
-  module _ (x : Here) (e : x ≡ here (drop j.position task.steps)) (run : Bool) (er : run ≡ here_is is_run x) where
-    stands : at_run task j ≡ run
-    unfolding at_run ahead any
-    stands = any_first is_run 0 (drop j.position task.steps) ∙ or-false _ ∙ ap (here_is is_run) (sym e) ∙ sym er
+  stands : (x : Option Step) → x ≡ here (drop j.position task.steps) → at_run task j ≡ here_is is_run x
+  unfolding at_run ahead any
+  stands x e = any_first is_run 0 (drop j.position task.steps) ∙ or-false _ ∙ ap (here_is is_run) (sym e)
 
-    pub goes_no_run : not run ≡ true → false ≡ goes mode task j false
-    goes_no_run h = sym (barred_goes ∙ and_no (not (mode =? 1 && fresh task j && any is_lock task.steps)) (at_run task j) (stands ∙ not-true run h))
+  -- behind its last step it does not go
+  pub goes_behind : (p : ℕ) → p ≡ j.position → None ≡ here (drop p task.steps) → goes mode task j false ≡ false
+  unfolding here_is
+  goes_behind p ep e =
+      barred_goes ∙ and_no (not (mode =? 1 && fresh task j && any is_lock task.steps)) (at_run task j) (stands None (e ∙ ap (λ (k : ℕ). here (drop k task.steps)) ep))
 
-    module _ (h : not run ≡ false) where
-      at_run_lem : at_run task j ≡ true
-      at_run_lem = stands ∙ not-false run h
+  -- at a step it goes if that is a run, unless mode 1 holds it back
+  module _ (x : Step) (p : ℕ) (ep : p ≡ j.position) (e : Some x ≡ here (drop p task.steps)) where
+    ahead_lem : Some x ≡ here (drop j.position task.steps)
+    ahead_lem = e ∙ ap (λ (k : ℕ). here (drop k task.steps)) ep
 
-      fresh_is : fresh task j ≡ (not (any is_run (take j.position task.steps)) && j.left =? ticks_of x)
-      unfolding fresh behind ahead
-      fresh_is = rw (at_run_lem, ← ticks_here (drop j.position task.steps), e) refl
+    at_run_lem : at_run task j ≡ is_run (meant x)
+    unfolding here_is
+    at_run_lem = stands (Some x) ahead_lem
 
-      goes_run : goes mode task j false ≡ not (mode =? 1 && (not (any is_run (take j.position task.steps)) && j.left =? ticks_of x) && any is_lock task.steps)
-      goes_run = barred_goes ∙ rw (at_run_lem, fresh_is) (and_true _)
+    full_ahead : full (drop j.position task.steps) ≡ full (meant x ∷ [])
+    full_ahead = rw (full_here (drop j.position task.steps), ← ahead_lem) refl
 
-      pub goes_mode : (mode ≡ 1 → ⊥) → true ≡ goes mode task j false
-      goes_mode n = sym (goes_run ∙ rw (ne_eqb mode 1 n) refl)
+    fresh_is : fresh task j ≡ (not (any is_run (take j.position task.steps)) && (is_run (meant x) ⇒ j.left =? full (meant x ∷ [])))
+    unfolding fresh behind ahead
+    fresh_is = rw (at_run_lem, full_ahead) refl
 
-      module _ (k : mode ≡ 1) (full : ℕ) (ef : full ≡ ticks_of x) where
-        pub goes_begun : (j.left ≡ full → ⊥) → true ≡ goes mode task j false
-        goes_begun n = sym (goes_run ∙ rw (eq-eqb mode 1 k, ← ef, ne_eqb j.left full n) (go (any is_run (take j.position task.steps)) (any is_lock task.steps)))
-          where
-            go : (a b : Bool) → not (true && (not a && false) && b) ≡ true
-            go true b = refl
-            go false b = refl
-
-        module _ (n : j.left ≡ full) (a : Bool) (ea : a ≡ any is_run (take j.position task.steps)) where
-          pub goes_later : a ≡ true → true ≡ goes mode task j false
-          goes_later u = sym (goes_run ∙ rw (eq-eqb mode 1 k, ← ea, u) refl)
-
-          pub goes_fresh : a ≡ false → (b : Bool) → b ≡ any is_lock task.steps → not b ≡ goes mode task j false
-          goes_fresh u b eb = sym (goes_run ∙ rw (eq-eqb mode 1 k, ← ef, eq-eqb j.left full n, ← ea, ← eb, u) refl)
+    pub goes_at : goes mode task j false
+        ≡ (is_run (meant x) && (not (mode =? 1) || not (j.left =? full (meant x ∷ [])) || any is_run (take p task.steps) || not (any is_lock task.steps)))
+    goes_at = barred_goes
+        ∙ rw (at_run_lem, fresh_is, ← ep) (go (is_run (meant x)) (mode =? 1) (j.left =? full (meant x ∷ [])) (any is_run (take p task.steps)) (any is_lock task.steps))
+      where
+        go : (r a b c d : Bool) → (not (a && (not c && (r ⇒ b)) && d) && r) ≡ (r && (not a || not b || c || not d))
+        go false a b c d = and_no (not (a && (not c && true) && d)) false refl
+        go true false b c d = refl
+        go true true false true d = refl
+        go true true false false d = refl
+        go true true true true d = refl
+        go true true true false true = refl
+        go true true true false false = refl
 
   -- free of ceilings, any job goes; and who goes though not free goes in any case
   pub goes_free : goes mode task j true ≡ true

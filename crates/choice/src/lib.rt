@@ -1,195 +1,177 @@
 // The choice of the runner: rules 2 to 4 of document 01.
 #![tactic(auto)]
 
-ghost use Rattle.std.specs.Prelude.{◌≡◌, [], false, ℕ, ◌≤◌, ◌<◌, take};
-ghost use Rattle.rules.specs.Words.{◌<?◌, row, any};
+ghost use Rattle.std.specs.Prelude.{◌≡◌, List, [], false, ℕ, ◌≤◌, ◌<◌, length, take, MatchOption};
+ghost use Rattle.rules.specs.Words.{any, row};
+ghost use Rattle.rules.specs.Sheet.{is_run, is_lock};
 ghost use Rattle.rules.specs.Record.{record_at};
-ghost use Rattle.rules.specs.Choice.{runner_byte, ceiling, goes, top_job, walk, runner};
-ghost use Rattle.table.specs.Table.{task_of, sheet_of, Lies, Tabled};
-ghost use Rattle.table.specs.Steps.{of_kind};
+ghost use Rattle.rules.specs.Choice.{ceiling, goes, top_job, walk, runner};
 ghost use Rattle.holders.specs.Holders.{holders};
 ghost use Rattle.choice.specs.Choosable.{Choosable};
-ghost use Rattle.choice.specs.Way.{nearer, nearest};
+ghost use Rattle.choice.specs.Way.{nearer, nearest, bars};
 
-use holders::holders_of;
-use rules::{Job, State};
-use table::{Entry, Kind, Table, entry_at, is_of, step_at, ticks_of};
+use holders::{Plan, holders_of};
+use rules::{Job, Runner, State};
+use table::Task;
 
-// The semaphore in a job's way: its ceiling and its holder, 255 where there is none.
-#[derive(Clone, Copy)]
+// The semaphore in a job's way: its ceiling and the job that holds it.
+#[derive(Clone, Copy, PartialEq, Eq, Debug)]
 pub struct Way {
     pub ceiling: u8,
     pub holder: u8,
 }
 
+impl Way {
+    // Rule 2: free is smaller than the ceiling, equal waits.
+    fn bars(self, rank: u8) -> bool
+        ensures { result ≡ bars rank self }
+    {
+        self.ceiling <= rank
+    }
+}
+
 // What is in the way of job i: a semaphore with ceiling c and holder h, or what was so far.
-fn nearer_of(i: u8, c: u8, h: u8, w: Way) -> Way
-    ensures { result ≡ nearer i c h w }
+#[tactic(auto, unfolding(crate::specs::Way::nearer, crate::specs::Way::by_other))]
+fn nearer_of(i: u8, c: u8, h: u8, way: Option<Way>) -> Option<Way>
+    ensures { result ≡ nearer i c h way }
 {
-    if h == 255 {
-        return w;
+    if h == 255 || h == i {
+        return way;
     }
-    if h == i {
-        return w;
-    }
-    if w.ceiling <= c {
-        return w;
-    }
-    Way {
-        ceiling: c,
-        holder: h,
+    match way {
+        Some(w) if w.ceiling <= c => way,
+        _ => Some(Way {
+            ceiling: c,
+            holder: h,
+        }),
     }
 }
 
-// What is in the way of job i, among the first m semaphores.
-fn way_of(i: u8, m: usize, cs: [u8; 16], hs: [u8; 16]) -> Way
-    requires { m ≤ 16 }
-    ensures { result ≡ nearest i cs hs m }
+// What is in the way of job i, among the semaphores of the sheet.
+#[tactic(auto, unfolding(crate::specs::Way::nearest))]
+fn way_of(plan: &Plan, hs: [u8; 16], i: u8) -> Option<Way>
+    ensures { result ≡ nearest i (row 16 (ceiling plan.now)) hs plan.now.semaphores }
 {
-    let mut w = Way {
-        ceiling: 255,
-        holder: 255,
-    };
-    let mut k: usize = 0;
-    while k < m {
-        w = nearer_of(i, cs[k], hs[k], w);
-        k += 1;
-    }
-    w
+    let m = usize::from(plan.table().semaphores());
+    let cs = plan.ceilings();
+    cs.iter()
+        .zip(hs.iter())
+        .take(m)
+        .fold(None, |way, (c, h)| nearer_of(i, *c, *h, way))
 }
 
-// Rule 2: smaller than the ceiling, equal waits.
-fn is_free(i: u8, w: Way) -> bool
-    ensures { result ≡ (i <? w.ceiling) }
+// Does a run lie before a position?
+fn runs_before(task: &Task, p: usize) -> bool
+    ensures { result ≡ any is_run (take p task.now.steps) }
 {
-    i < w.ceiling
+    task.steps().iter().take(p).any(|x| x.is_run())
 }
 
-// Does a step of a kind lie before a position?
-fn any_before(s: &[u8], e: Entry, kind: Kind, position: usize) -> bool
-    requires { Lies s.now e }
-    ensures { result ≡ any (of_kind kind) (take position (task_of s.now e).steps) }
+// Has a task's program a lock?
+fn has_lock(task: &Task) -> bool
+    ensures { result ≡ any is_lock task.now.steps }
 {
-    let mut p: usize = 0;
-    while p < position {
-        let x = step_at(s, e, p);
-        if is_of(x, kind) {
-            return true;
-        }
-        p += 1;
-    }
-    false
+    task.steps().iter().any(|x| x.is_lock())
 }
 
 // Rule 3 of a job that is not free of ceilings: it goes where it stands at a run, unless mode 1 holds it back, fresh and
 // with a lock in its program.
-fn goes_barred(s: &[u8], mode: u8, e: Entry, j: Job) -> bool
-    requires { Lies s.now e }
-    ensures { result ≡ goes mode (task_of s.now e) j false }
+#[tactic(auto, using(crate::proofs::Steps::goes_behind))]
+fn goes_barred(mode: u8, task: &Task, j: Job) -> bool
+    ensures { result ≡ goes mode task.now j false }
 {
-    let position = j.position as usize;
-    let x = step_at(s, e, position);
-    if !is_of(x, Kind::Run) {
+    let position = usize::from(j.position);
+    let Some(x) = task.step_at(position) else {
         return false;
-    }
-    if mode != 1 {
-        return true;
-    }
-    if j.left != ticks_of(x) {
-        return true;
-    }
-    if any_before(s, e, Kind::Run, position) {
-        return true;
-    }
-    let count = e.count as usize;
-    let locks = any_before(s, e, Kind::Lock, count);
-    !locks
+    };
+    x.is_run()
+        && (mode != 1 || j.left != x.ticks() || runs_before(task, position) || !has_lock(task))
 }
 
-// Rule 4: the pending job of smallest rank, 255 if none is.
-fn top_job(n: usize, st: State) -> u8
+// Rule 4: the pending job of smallest rank, if one is.
+fn top_job(n: usize, st: &State) -> Option<u8>
     requires n_bound { n ≤ 16 }
-    requires by_index { (i : ℕ) → i < 16 → n ≤ i → (record_at st.tasks i).job.pending ≡ false }
-    ensures { result ≡ top_job st.tasks }
+    requires by_index { (i : ℕ) → i < 16 → n ≤ i → (record_at st.now.tasks i).job.pending ≡ false }
+    ensures { MatchOption result (top_job st.now.tasks ≡ 255) (λ i. (i ≡ top_job st.now.tasks) × (i < n)) }
 {
-    let mut i: usize = 0;
-    while i < n {
-        let r = st.tasks[i];
-        let j = r.job;
-        if j.pending {
-            return i as u8;
-        }
-        i += 1;
-    }
-    255
+    st.tasks[..n]
+        .iter()
+        .position(|r| r.job.pending)
+        .map(|i| i as u8)
 }
 
-// The first candidate that may go, from one on; 254 where a candidate comes round again.
-fn walked(s: &[u8], table: Table, cs: [u8; 16], hs: [u8; 16], st: State, from: u8) -> u8
-    requires tabled { Tabled s.now table }
-    requires cs_value { cs ≡ row 16 (ceiling (sheet_of s.now table)) }
-    requires hs_value { hs ≡ holders (sheet_of s.now table) st.tasks }
-    requires choosable { Choosable (sheet_of s.now table) st.tasks }
-    requires from_bound { from < 16 }
-    ensures { result ≡ runner_byte (walk (sheet_of s.now table) st.tasks 16 [] from) }
+// The first candidate that may go, from one on; nobody where a candidate comes round again.
+fn walked(plan: &Plan, hs: [u8; 16], st: &State, from: u8) -> Runner
+    requires hs_value { hs ≡ holders plan.now st.now.tasks }
+    requires choosable { Choosable plan.now st.now.tasks }
+    requires from_bound { from < length plan.now.tasks }
+    ensures { result ≡ walk plan.now st.now.tasks 16 [] from }
 {
-    let m = table.semaphores as usize;
-    let mode = table.mode;
+    let table = plan.table();
+    let mode = table.mode();
     let mut c = from;
-    let mut seen: usize = 0;
-    while seen < 16 {
-        let i = c as usize;
-        let e = entry_at(table, i);
-        let r = st.tasks[i];
-        let j = r.job;
-        if goes_barred(s, mode, e, j) {
-            return c;
+    'walk: for _ in 0..16u8 {
+        let i = usize::from(c);
+        let task = table.task(i);
+        if goes_barred(mode, task, st.tasks[i].job) {
+            return Runner::Rank(c);
         }
-        let w = way_of(c, m, cs, hs);
-        if is_free(c, w) {
-            return c;
+        match way_of(plan, hs, c) {
+            Some(way) if way.bars(c) => c = way.holder,
+            _ => return Runner::Rank(c),
         }
-        c = w.holder;
-        seen += 1;
     }
-    254
+    Runner::Stuck
 }
 
-// The runner of a tick, from the state after its releases and the holders.
-pub fn runner_with(s: &[u8], table: Table, cs: [u8; 16], hs: [u8; 16], st: State) -> u8
-    requires tabled { Tabled s.now table }
-    requires cs_value { cs ≡ row 16 (ceiling (sheet_of s.now table)) }
-    requires hs_value { hs ≡ holders (sheet_of s.now table) st.tasks }
-    requires choosable { Choosable (sheet_of s.now table) st.tasks }
-    ensures { result ≡ runner_byte (runner (sheet_of s.now table) st.tasks) }
+// The runner of a tick, from the state after its releases. The holders are asked for only where the pending job of smallest rank
+// does not go in any case. The state is read where it stands: a copy for each function would take a good part of the tick.
+// Choosable stays a clause: it is true of a plan and a state at one moment of the tick, and a type for it would be made in both
+// public functions only to be taken apart in this one.
+fn chosen<F: FnOnce() -> [u8; 16]>(plan: &Plan, st: &State, find_holders: F) -> Runner
+    requires callable { F.IsAlwaysCallable find_holders }
+    requires hs_value { (hs : List ℕ) → F.post find_holders hs → hs ≡ holders plan.now st.now.tasks }
+    requires choosable { Choosable plan.now st.now.tasks }
+    ensures { result ≡ runner plan.now st.now.tasks }
 {
-    let n = table.n as usize;
-    let top = top_job(n, st);
-    if top == 255 {
-        return 255;
+    let table = plan.table();
+    let Some(top) = top_job(table.len(), st) else {
+        return Runner::Idle;
+    };
+    let i = usize::from(top);
+    let task = table.task(i);
+    if goes_barred(table.mode(), task, st.tasks[i].job) {
+        return Runner::Rank(top);
     }
-    walked(s, table, cs, hs, st, top)
+    let hs = find_holders();
+    walked(plan, hs, st, top)
 }
 
-// The same with no holders at hand. They are found only where the pending job of smallest rank does not go in any case.
-pub fn runner_of(s: &[u8], table: Table, cs: [u8; 16], st: State) -> u8
-    requires tabled { Tabled s.now table }
-    requires cs_value { cs ≡ row 16 (ceiling (sheet_of s.now table)) }
-    requires choosable { Choosable (sheet_of s.now table) st.tasks }
-    ensures { result ≡ runner_byte (runner (sheet_of s.now table) st.tasks) }
+// The runner of a tick, with the holders at hand,
+pub fn runner_with(plan: &Plan, hs: [u8; 16], st: State) -> Runner
+    requires hs_value { hs ≡ holders plan.now st.tasks }
+    requires choosable { Choosable plan.now st.tasks }
+    ensures { result ≡ runner plan.now st.tasks }
 {
-    let n = table.n as usize;
-    let top = top_job(n, st);
-    if top == 255 {
-        return 255;
-    }
-    let i = top as usize;
-    let e = entry_at(table, i);
-    let r = st.tasks[i];
-    let j = r.job;
-    if goes_barred(s, table.mode, e, j) {
-        return top;
-    }
-    let hs = holders_of(s, table, st);
-    walked(s, table, cs, hs, st, top)
+    chosen(
+        plan,
+        &st,
+        ||
+            ensures { result ≡ hs }
+        { hs },
+    )
+}
+
+// and with none.
+pub fn runner_of(plan: &Plan, st: State) -> Runner
+    requires { Choosable plan.now st.tasks }
+    ensures { result ≡ runner plan.now st.tasks }
+{
+    chosen(
+        plan,
+        &st,
+        ||
+            ensures { result ≡ holders plan.entry.now st.tasks }
+        { holders_of(plan.table(), st) },
+    )
 }

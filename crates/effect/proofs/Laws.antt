@@ -1,250 +1,183 @@
--- Laws of the tick's effect: the step at a position, a record and its rank, the sixteen records.
-use Prim.Native.Nat.{ℕ, suc, ◌+◌, ◌-◌, ◌*◌, ◌/◌, ◌%◌, ◌≤◌, ◌<◌}
+-- Laws of the tick's effect: the steps that pass, the releases, a record and its rank, the sixteen records.
+use Prim.Native.Nat.{ℕ, suc, ◌+◌, ◌-◌, ◌*◌, ◌/◌, ◌%◌, ◌≤◌, ◌<◌, min}
 use mathlib.Core.Path.{◌≡◌, refl, sym, ap, ◌∙◌}
 use mathlib.Core.Logic.{⊎_elim}
-use mathlib.Core.List.{List, [], ◌∷◌}
-use mathlib.Core.Bool.{Bool, true, false}
+use mathlib.Core.Bool.{Bool, true, false, ◌&&◌}
+use mathlib.Core.List.{List, [], ◌∷◌, ◌++◌, map}
 use native.Mathlib.Omega.{arith}
 use native.Mathlib.Nat.{add_assoc, div-add-mod'}
 use lib.Arith.{digits_mod}
 use lib.Dec.{eqb}
-use lib.ListN.{length, get_or, drop, set, length-set, length-drop}
-use lib.Seq.{drop-drop, ext_get_or, get_or-set_same, get_or-set_other}
-use borrow.Author.Tests.{lt-ltb, le-ltb, le-leb, lt-leb, eq-eqb, ne_eqb, eqb-true, eqb-false}
-use Rattle.std.specs.Prelude.{if◌then◌else◌}
+use lib.ListN.{length, take, drop, get_or, set, length-set, length-append, get_or-append}
+use lib.Seq.{ext_get_or, get_or-set_same, get_or-set_other}
+use borrow.Author.Count.{below_more}
+use denote.Bor.{Bor}
+use borrow.Author.Tests.{ltb-true, ltb-false, lt-ltb, le-ltb, lt-leb, le-leb, eq-eqb, ne_eqb, eqb-true, eqb-false}
+use Rattle.std.specs.Prelude.{if◌then◌else◌, Option, Some, None}
+use Rattle.std.specs.Slice.{IsItemAt}
+use Rattle.std.specs.List.{prefix_len}
+use Rattle.std.proofs.lemmas.List.{drop-map, length-map, length-take, length-take-le, take-append-drop, take_all, append-nil, get_or-take, get_or-map, get_or-drop, get_or_default, get_or-append_right, get_or_past}
+use Rattle.std.proofs.lemmas.List.Edits.{map_over_more}
+use Rattle.std.proofs.lemmas.List.Folds.{length-prefix_len}
 use Rattle.rules.specs.Words.{◌<?◌, ◌=?◌, leading}
-use Rattle.rules.specs.Sheet.{Step, Task, Sheet, task_at, is_lock, is_unlock}
-use Rattle.rules.specs.Fields.{Releases, Misses, TicksRun, up, standing, moved_to, no_job, blank, last_job, same_job, with_tasks}
+use Rattle.rules.specs.Sheet.{Step as Rules·Step, Task, Sheet, no_task, task_at}
+use Rattle.rules.specs.Fields.{up, blank, with_tasks}
 use Rattle.rules.specs.Record.{record_at, ahead}
-use Rattle.rules.specs.Choice.{full, Runner, job, stuck, idle, runner_byte}
-use Rattle.rules.specs.Tick.{completed, releases_at, released, after_releases, next_run, left_of_run, behind_unlocks, advanced, was_blocked, spent, after_runner, ran_last, closed}
-use Rattle.rules.specs.declared.Job.{Job}
+use Rattle.rules.specs.Tick.{releases_at, released, after_releases, next_run, left_of_run, behind_unlocks, advanced, was_blocked, spent, after_runner}
+use Rattle.rules.specs.declared.Count.TheVariants.{TicksRun}
 use Rattle.rules.specs.declared.Counts.{Counts}
 use Rattle.rules.specs.declared.TaskRecord.{TaskRecord}
-use Rattle.rules.specs.declared.LastJob.{LastJob}
 use Rattle.rules.specs.declared.State.{State}
-use Rattle.rules.proofs.Laws.{sure, below, true_false, if_cases, length_row, row_at}
-use Rattle.rules.proofs.Reading.{periods}
+use Rattle.rules.specs.declared.Runner.{Runner}
+use Rattle.rules.specs.declared.Runner.TheVariants.{Rank, Stuck, Idle}
+use Rattle.rules.proofs.Laws.{sure, below, length_row, row_at}
 use Rattle.rules.proofs.Tick.{advanced_cases, spent_at}
-use Rattle.table.specs.Table.{here, no_entry, entry_of, task_of, sheet_of, Tabled}
-use Rattle.table.specs.Steps.{here_is, ticks_of}
-use Rattle.table.specs.declared.Entry.{Entry}
-use Rattle.table.specs.declared.Table.{Table}
-use Rattle.table.specs.declared.Here.{Here}
-use Rattle.table.proofs.Laws.{entry_in_lem, task_at_lem, tasks_count}
-use Rattle.table.proofs.Steps.{ticks_here, leading_first}
-use Rattle.effect.specs.Effect.{runner_named, Rests, Quiet, changed_below, blocked_once, each_blocked}
+use Rattle.table.proofs.Laws.{drop_past, task_read}
+use Rattle.table.specs.Steps.{meant}
+use Rattle.table.specs.declared.Step.{Step}
+use Rattle.record.specs.Room.{CountsBelow, AllBelow}
+use Rattle.effect.specs.Effect.{Rests, Quiet, blocked_once, each_blocked}
 
--- at most all of some steps pass
-leading_le : (test : Step → Bool) (xs : List Step) → leading test xs ≤ length xs
+-- how many steps pass from a position on, in the table and in the sheet
+prefix_len-meant : (test : Rules·Step → Bool) (xs : List Step) → prefix_len (λ x. test (meant x)) xs ≡ leading test (map meant xs)
 unfolding leading
-leading_le test [] = omega arith
-leading_le test (x ∷ xs) = go (test x) (leading_le test xs)
+prefix_len-meant test [] = refl
+prefix_len-meant test (x ∷ xs) = go (test (meant x)) (prefix_len-meant test xs)
   where
-    go : (b : Bool) → leading test xs ≤ length xs → (if b then suc (leading test xs) else 0) ≤ suc (length xs)
+    go : (b : Bool) → prefix_len (λ x. test (meant x)) xs ≡ leading test (map meant xs)
+        → (if b then 1 + prefix_len (λ x. test (meant x)) xs else 0) ≡ (if b then suc (leading test (map meant xs)) else 0)
     go true h = omega arith
-    go false h = omega arith
+    go false h = refl
 
--- the ticks left on coming to steps, by the first of them
-pub full_told : (steps : List Step) (x : Here) (n : ℕ) → x ≡ here steps → n ≡ ticks_of x → n ≡ full steps
-full_told steps x n e en = en ∙ ap ticks_of e ∙ ticks_here steps
+pub passing : (test : Rules·Step → Bool) (from : ℕ) (xs : List Step) (steps : List Rules·Step) → map meant xs ≡ steps
+    → (n : ℕ) → n ≡ length (take (prefix_len (λ x. test (meant x)) (drop from xs)) (drop from xs)) → from + n ≡ from + leading test (drop from steps)
+passing test from xs steps e n en =
+    ap (λ k. from + k) (en ∙ length-prefix_len (λ x. test (meant x)) (drop from xs) ∙ prefix_len-meant test (drop from xs)
+    ∙ ap (leading test) (sym (drop-map meant from xs) ∙ ap (drop from) e))
 
--- past the steps that pass a test, one by one
-module _ (test : Step → Bool) (steps : List Step) (p end : ℕ) (inv : p + leading test (drop p steps) ≡ end)
-    (x : Here) (ex : x ≡ here (drop p steps)) (b : Bool) (eb : b ≡ here_is test x) where
-  leading_by : leading test (drop p steps) ≡ (if b then suc (leading test (drop (p + 1) steps)) else 0)
-  leading_by = rw (eb, ex, ← drop-drop 1 p steps) (leading_first test (drop p steps))
+-- what a look at a rank finds in the table's tasks
+pub task_found : (sheet : Sheet) (tasks : List Task) (i : ℕ) (r : Option (Bor Task)) → tasks ≡ sheet.tasks → IsItemAt tasks i r
+    → (x : Bor Task) → r ≡ Some x → x.now ≡ task_at sheet i
+task_found sheet tasks i r e found x h =
+    let item = rw h at found in task_read sheet tasks e i (ltb-true i (length tasks) (sym item.0)) x.now item.1
 
-  pub past_end : b ≡ false → p ≡ end
-  past_end u = let z : leading test (drop p steps) ≡ 0 = rw u at leading_by in omega arith
+pub task_past : (sheet : Sheet) (tasks : List Task) (i : ℕ) (r : Option (Bor Task)) → tasks ≡ sheet.tasks → IsItemAt tasks i r → r ≡ None → no_task ≡ task_at sheet i
+unfolding task_at
+task_past sheet tasks i r e found h =
+    let item = rw h at found in
+    sym (get_or_past tasks i no_task (ltb-false i (length tasks) (sym item.0))) ∙ ap (λ (ts : List Task). get_or ts i no_task) e
 
-  pub past_more : b ≡ true → p + 1 + leading test (drop (p + 1) steps) ≡ end
-  past_more u = let z : leading test (drop p steps) ≡ suc (leading test (drop (p + 1) steps)) = rw u at leading_by in omega arith
-
-  pub past_inside : b ≡ true → p < length steps
-  past_inside u = let z : leading test (drop p steps) ≡ suc (leading test (drop (p + 1) steps)) = rw u at leading_by in
-      omega (arith, leading_le test (drop p steps), length-drop p steps)
-
--- rule 1: whether a task has a release at t
-module _ (t : ℕ) (task : Task) where
-  pub releases_early : t < task.offset → false ≡ releases_at t task
-  unfolding releases_at
-  releases_early l = rw (lt-leb task.offset t l) refl
-
-  pub releases_then : task.offset ≤ t → eqb ((t - task.offset) % task.period) 0 ≡ releases_at t task
-  unfolding releases_at
-  releases_then l = rw (le-leb task.offset t l) refl
-
--- it has none before its next one
+-- a task has no release before its next one
 not_due : (x d q p since : ℕ) → x ≡ q * p + since → since + d < p → 1 ≤ d → eqb ((x + d) % p) 0 ≡ false
 not_due x d q p since e l g =
     rw (ap (λ (y : ℕ). (y + d) % p) e ∙ ap (λ (y : ℕ). y % p) (add_assoc (q * p) since d) ∙ digits_mod q l) (ne_eqb (since + d) 0 (λ z. omega arith))
 
-module _ (t : ℕ) (task : Task) where
-  pub rests_early : t < task.offset → Rests (t + 1) task.offset task
-  unfolding releases_at
-  rests_early l k f h = rw (lt-leb task.offset k h) refl
+pub rests_early : (k : ℕ) (task : Task) → k < task.offset → releases_at k task ≡ false
+unfolding releases_at
+rests_early k task l = rw (lt-leb task.offset k l) refl
 
-  pub rests_then : task.offset ≤ t → Rests (t + 1) (t + (task.period - (t - task.offset) % task.period)) task
-  unfolding releases_at
-  rests_then l k f h =
-      let x = t - task.offset in
-      let p = task.period in
-      let split : k - task.offset ≡ x + (k - t) = omega arith in
-      rw (le-leb task.offset k (omega arith), split) (not_due x (k - t) (x / p) p (x % p) (sym (div-add-mod' x p)) (omega arith) (omega arith))
+pub rests_then : (t : ℕ) (task : Task) → task.offset ≤ t → Rests (t + 1) (t + (task.period - (t - task.offset) % task.period)) task
+unfolding releases_at
+rests_then t task l k f h =
+    let x = t - task.offset in
+    let p = task.period in
+    let split : k - task.offset ≡ x + (k - t) = omega arith in
+    rw (le-leb task.offset k (omega arith), split) (not_due x (k - t) (x / p) p (x % p) (sym (div-add-mod' x p)) (omega arith) (omega arith))
 
--- and what it makes of the record
-module _ (t : ℕ) (task : Task) (r : TaskRecord) where
-  pub released_not : releases_at t task ≡ false → released t task r ≡ r
-  unfolding released
-  released_not e = rw e refl
+-- the quiet ticks, one task more
+pub quiet_more : (sheet : Sheet) (from i due next both : ℕ) → ((j : ℕ) → j < i → Rests from due (task_at sheet j)) → Rests from next (task_at sheet i)
+    → both ≤ due → both ≤ next → (j : ℕ) → j < i + 1 → Rests from both (task_at sheet j)
+quiet_more sheet from i due next both inv rests first second =
+    below_more (λ j. Rests from both (task_at sheet j)) i (λ j l k f h. inv j l k f (omega arith)) (λ k f h. rests k f (omega arith))
 
-  module _ (due : releases_at t task ≡ true) (c : Counts) (ec : c ≡ up Releases r.counts) where
-    pub released_missed : r.job.pending ≡ true → (d : Counts) → d ≡ up Misses c → record { job = r.job; counts = d } ≡ released t task r
-    unfolding released
-    released_missed p d ed = simp (due, p, ed, ec)
+pub released_not : (t : ℕ) (task : Task) (r : TaskRecord) → releases_at t task ≡ false → released t task r ≡ r
+unfolding released
+released_not t task r e = rw e refl
 
-    pub released_started : r.job.pending ≡ false → (left : ℕ) → left ≡ full (drop 0 task.steps) → (k : Job) → k ≡ standing 0 left t 0
-        → record { job = k; counts = c } ≡ released t task r
-    unfolding released
-    released_started p left el k ek = simp (due, p, ek, el, ec)
-
--- rule 5: the ticks left of the next run
-module _ (task : Task) (j : Job) (p : ℕ) (ep : p ≡ next_run task j) where
-  pub left_kept : p ≡ j.position → j.left ≡ left_of_run task j
-  unfolding left_of_run
-  left_kept u = rw (eq-eqb (next_run task j) j.position (sym ep ∙ u)) refl
-
-  pub left_full : (p ≡ j.position → ⊥) → (f : ℕ) → f ≡ full (drop p task.steps) → f ≡ left_of_run task j
-  unfolding left_of_run
-  left_full n f ef =
-      ef ∙ ap (λ (k : ℕ). full (drop k task.steps)) ep
-      ∙ sym (rw (ne_eqb (next_run task j) j.position (λ u. n (ep ∙ u))) refl)
-
--- the next run stands inside the steps, or where the job stood
-pub next_run_fits : (task : Task) (j : Job) (p : ℕ) → p ≡ next_run task j → length task.steps ≤ 64 → j.position ≤ 255 → p ≤ 255
-unfolding next_run ahead
-next_run_fits task j p e few h =
-    omega (arith, leading_le is_lock (drop j.position task.steps), length-drop j.position task.steps)
-
--- the record of the job that runs
-module _ (t : ℕ) (task : Task) (r : TaskRecord) (p left : ℕ) (ep : p ≡ next_run task r.job) (el : left ≡ left_of_run task r.job) where
-  pub advanced_on : 1 < left → (k : Job) → k ≡ moved_to p (left - 1) r.job → record { job = k; counts = r.counts } ≡ advanced t task r
-  unfolding advanced
-  advanced_on h k ek = rw (ek, ep, ← el, lt-ltb 1 left h) refl
-
-  module _ (h : left ≤ 1) (next : ℕ) (en : next ≡ p + 1 + leading is_unlock (drop (p + 1) task.steps)) where
-    behind : next ≡ behind_unlocks task r.job
-    unfolding behind_unlocks
-    behind = en ∙ ap (λ (k : ℕ). k + 1 + leading is_unlock (drop (k + 1) task.steps)) ep
-
-    pub advanced_further : next < length task.steps → (f : ℕ) → f ≡ full (drop next task.steps) → (k : Job) → k ≡ moved_to next f r.job
-        → record { job = k; counts = r.counts } ≡ advanced t task r
-    unfolding advanced
-    advanced_further l f ef k ek = rw (ek, ← el, ← behind, le-ltb 1 left h, lt-ltb next (length task.steps) l, ef) refl
-
-    pub advanced_done : length task.steps ≤ next → (w : ℕ) → w ≡ t + 1 - r.job.release → (d : Counts) → d ≡ completed w r.counts
-        → (k : Job) → k ≡ no_job → record { job = k; counts = d } ≡ advanced t task r
-    unfolding advanced
-    advanced_done l w ew d ed k ek = rw (ek, ← el, ← behind, le-ltb 1 left h, le-ltb next (length task.steps) l, ed, ew) refl
-
--- it changes no ticks run
+-- the job that runs changes no ticks run, which then rise by one
 pub advanced_ran : (t : ℕ) (task : Task) (r : TaskRecord) → (advanced t task r).counts.ran ≡ r.counts.ran
 advanced_ran t task r = advanced_cases (λ (q : TaskRecord). q.counts.ran ≡ r.counts.ran) t task r (λ l. refl) (λ l h. refl) (λ l h. refl)
+
+pub spent_runner : (t x : ℕ) (task : Task) (r a : TaskRecord) (c : Counts) → a ≡ advanced t task r → c ≡ up TicksRun a.counts
+    → record { job = a.job; counts = c } ≡ spent (Rank x) t x task r
+unfolding spent
+spent_runner t x task r a c ea ec = rw (eq-eqb x x refl, ec, ea) refl
 
 -- the sixteen records are the same where each is
 pub same_records : (a b : List TaskRecord) → length a ≡ 16 → length b ≡ 16 → ((i : ℕ) → i < 16 → record_at a i ≡ record_at b i) → a ≡ b
 unfolding record_at
 same_records a b la lb h = ext_get_or blank a b (la ∙ sym lb) (λ i l. h i (omega arith))
 
-pub set_at : (a : List TaskRecord) (n : ℕ) (q : TaskRecord) → length a ≡ 16 → n < 16 → (i : ℕ)
-    → record_at (set a n q) i ≡ (if i =? n then q else record_at a i)
-unfolding record_at
-set_at a n q z l i = ⊎_elim
-    (λ (e : (i =? n) ≡ true). rw (eqb-true i n e) (get_or-set_same a n q blank (omega arith) ∙ sym (rw (eq-eqb n n refl) refl)))
-    (λ (e : (i =? n) ≡ false). rw e (get_or-set_other a n i q blank (eqb-false i n e)))
-    (sure (i =? n))
+-- a loop that changes the records in turn: those before n are changed, by a function that is told the rank
+pub record Changed (f : ℕ → TaskRecord → TaskRecord) (old now : List TaskRecord) (n : ℕ) : Type 0 where
+  pub before : (i : ℕ) → i < n → record_at now i ≡ f i (record_at old i)
+  pub behind : (i : ℕ) → n ≤ i → record_at now i ≡ record_at old i
 
--- a loop that changes the records in turn
-module _ (f : ℕ → TaskRecord → TaskRecord) (records : List TaskRecord) where
-  pub changed_length : (n : ℕ) → length (changed_below n f records) ≡ 16
-  unfolding changed_below
-  changed_length n = length_row 16 _
+pub changed_none : (f : ℕ → TaskRecord → TaskRecord) (old : List TaskRecord) → Changed f old old 0
+changed_none f old = record { before = λ i l. absurd (omega arith); behind = λ i l. refl }
 
-  changed_at : (n i : ℕ) → i < 16 → record_at (changed_below n f records) i ≡ (if i <? n then f i (record_at records i) else record_at records i)
-  unfolding changed_below record_at
-  changed_at n i l = row_at 16 _ blank i l
+-- one record more, written anew or left as it is
+module _ (f : ℕ → TaskRecord → TaskRecord) (old now : List TaskRecord) (n : ℕ) (changed : Changed f old now n) where
+  pub changed_more : n < length now → (q : TaskRecord) → q ≡ f n (record_at now n) → Changed f old (set now n q) (n + 1)
+  unfolding record_at
+  changed_more l q e = record {
+    before = below_more (λ i. get_or (set now n q) i blank ≡ f i (get_or old i blank)) n
+        (λ i u. get_or-set_other now n i q blank (λ z. omega arith) ∙ changed.before i u)
+        (get_or-set_same now n q blank l ∙ e ∙ ap (f n) (changed.behind n (omega arith)));
+    behind = λ i u. get_or-set_other now n i q blank (λ z. omega arith) ∙ changed.behind i (omega arith);
+  }
 
-  changed_in : (n i : ℕ) → i < 16 → i < n → record_at (changed_below n f records) i ≡ f i (record_at records i)
-  changed_in n i l u = changed_at n i l ∙ rw (lt-ltb i n u) refl
+  pub changed_same : record_at now n ≡ f n (record_at now n) → Changed f old now (n + 1)
+  changed_same e = record {
+    before = below_more (λ i. record_at now i ≡ f i (record_at old i)) n changed.before (e ∙ ap (f n) (changed.behind n (omega arith)));
+    behind = λ i u. changed.behind i (omega arith);
+  }
 
-  changed_out : (n i : ℕ) → i < 16 → n ≤ i → record_at (changed_below n f records) i ≡ record_at records i
-  changed_out n i l u = changed_at n i l ∙ rw (le-ltb i n u) refl
+-- a record that is not changed yet has the room that it had
+pub roomy : (m : ℕ) (old now : List TaskRecord) (i : ℕ) → AllBelow m old → i < 16 → record_at now i ≡ record_at old i
+    → CountsBelow m (record_at now i).counts × ((record_at now i).job.present < m)
+roomy m old now i all l e = rw e (all i l)
 
-  pub changed_none : length records ≡ 16 → records ≡ changed_below 0 f records
-  changed_none z = same_records records (changed_below 0 f records) z (changed_length 0) (λ i l. sym (changed_out 0 i l (omega arith)))
+-- rule 1, task by task
+abbrev pub releasing : (sheet : Sheet) (t : ℕ) → ℕ → TaskRecord → TaskRecord
+releasing sheet t i r = released t (task_at sheet i) r
 
-  module _ (n : ℕ) (l : n < 16) where
-    pub changed_here : record_at (changed_below n f records) n ≡ record_at records n
-    changed_here = changed_out n n l (omega arith)
+pub record Releasing (sheet : Sheet) (st now : State) (n : ℕ) : Type 0 where
+  pub others : now ≡ with_tasks st now.tasks
+  pub sized : length now.tasks ≡ 16
+  pub changed : Changed (releasing sheet st.t) st.tasks now.tasks n
 
-    pub changed_same : f n (record_at records n) ≡ record_at records n → changed_below n f records ≡ changed_below (n + 1) f records
-    changed_same e = same_records (changed_below n f records) (changed_below (n + 1) f records) (changed_length n) (changed_length (n + 1)) (λ i u. ⊎_elim
-        (λ (m : i < n). changed_in n i u m ∙ sym (changed_in (n + 1) i u (omega arith)))
-        (λ (m : n ≤ i). changed_out n i u m ∙ ⊎_elim
-        (λ (k : n < i). sym (changed_out (n + 1) i u (omega arith)))
-        (λ (k : i ≤ n). let z : i ≡ n = omega arith in rw z (sym e ∙ sym (changed_in (n + 1) n l (omega arith))))
-        (below n i))
-        (below i n))
+pub releases_none : (sheet : Sheet) (st : State) → length st.tasks ≡ 16 → Releasing sheet st st 0
+releases_none sheet st z = record { others = refl; sized = z; changed = changed_none (releasing sheet st.t) st.tasks }
 
-    pub changed_more : (q : TaskRecord) → q ≡ f n (record_at records n) → set (changed_below n f records) n q ≡ changed_below (n + 1) f records
-    changed_more q e = same_records (set (changed_below n f records) n q) (changed_below (n + 1) f records) (length-set (changed_below n f records) n q ∙ changed_length n) (changed_length (n + 1)) (λ i u.
-        set_at (changed_below n f records) n q (changed_length n) l i ∙ ⊎_elim
-        (λ (v : (i =? n) ≡ true). let w = eqb-true i n v in rw (v, w, e) (sym (changed_in (n + 1) n l (omega arith))))
-        (λ (v : (i =? n) ≡ false). let w = eqb-false i n v in rw v (⊎_elim
-        (λ (m : i < n). changed_in n i u m ∙ sym (changed_in (n + 1) i u (omega arith)))
-        (λ (m : n ≤ i). changed_out n i u m ∙ sym (changed_out (n + 1) i u (⊎_elim (λ (k : n < i). omega arith) (λ (k : i ≤ n). absurd (w (omega arith))) (below n i))))
-        (below i n)))
-        (sure (i =? n)))
+module _ (sheet : Sheet) (st now : State) (n : ℕ) (done : Releasing sheet st now n) where
+  pub releases_all : n ≡ length sheet.tasks → now ≡ with_tasks st (after_releases sheet st)
+  unfolding after_releases record_at
+  releases_all e = done.others ∙ ap (with_tasks st) (same_records now.tasks (after_releases sheet st) done.sized (length_row 16 _) (λ i l. ⊎_elim
+      (λ (v : i < n). done.changed.before i v ∙ sym (row_at 16 _ blank i l ∙ rw (lt-ltb i (length sheet.tasks) (omega arith)) refl))
+      (λ (v : n ≤ i). done.changed.behind i v ∙ sym (row_at 16 _ blank i l ∙ rw (le-ltb i (length sheet.tasks) (omega arith)) refl))
+      (below i n)))
 
--- a period of the table is at least 1
-pub period_from_lem : (bytes : List ℕ) (table : Table) → Tabled bytes table → (i : ℕ) → i < table.n → 1 ≤ (get_or table.entries i no_entry).period
-unfolding task_of
-period_from_lem bytes table τ i l =
-    let task : task_at (sheet_of bytes table) i ≡ task_of bytes (get_or table.entries i no_entry) = task_at_lem bytes table i ∙ ap (task_of bytes) (sym (entry_in_lem table i l)) in
-    rw task at (periods bytes (sheet_of bytes table) τ.reads i (rw (tasks_count bytes table) l))
+  module _ (l : n < 16) (task : Task) (et : task ≡ task_at sheet n) where
+    same_time : now.t ≡ st.t
+    same_time = ap (λ (x : State). x.t) done.others
 
--- the releases, one task more
-abbrev pub releasing : (bytes : List ℕ) → Table → (t : ℕ) → ℕ → TaskRecord → TaskRecord
-releasing bytes table t i r = released t (task_at (sheet_of bytes table) i) r
-
-module _ (bytes : List ℕ) (table : Table) (st : State) where
-  pub releases_none : length st.tasks ≡ 16 → st ≡ with_tasks st (changed_below 0 (releasing bytes table st.t) st.tasks)
-  releases_none z = ap (with_tasks st) (changed_none (releasing bytes table st.t) st.tasks z)
-
-  pub releases_all : with_tasks st (changed_below table.n (releasing bytes table st.t) st.tasks) ≡ with_tasks st (after_releases (sheet_of bytes table) st)
-  unfolding changed_below after_releases
-  releases_all = rw (tasks_count bytes table) refl
-
-  module _ (next : State) (i : ℕ) (inv : next ≡ with_tasks st (changed_below i (releasing bytes table st.t) st.tasks)) (few : table.n ≤ 16) (l : i < table.n) where
-    pub releases_here : record_at next.tasks i ≡ record_at st.tasks i
-    releases_here = ap (λ (x : State). record_at x.tasks i) inv ∙ changed_here (releasing bytes table st.t) st.tasks i (omega arith)
-
-    task_here : task_of bytes (get_or table.entries i no_entry) ≡ task_at (sheet_of bytes table) i
-    task_here = ap (task_of bytes) (entry_in_lem table i l) ∙ sym (task_at_lem bytes table i)
-
-    pub releases_more : (q : TaskRecord) → q ≡ released st.t (task_of bytes (get_or table.entries i no_entry)) (record_at next.tasks i)
-        → with_tasks next (set next.tasks i q) ≡ with_tasks st (changed_below (i + 1) (releasing bytes table st.t) st.tasks)
+    pub releases_more : (q : TaskRecord) → q ≡ released now.t task (record_at now.tasks n) → Releasing sheet st (with_tasks now (set now.tasks n q)) (n + 1)
     releases_more q e =
-        ap (λ (x : State). with_tasks x (set x.tasks i q)) inv
-        ∙ ap (with_tasks st) (changed_more (releasing bytes table st.t) st.tasks i (omega arith) q
-        (e ∙ rw (task_here, releases_here) refl))
+        let here : q ≡ releasing sheet st.t n (record_at now.tasks n) = e ∙ rw (same_time, et) refl in
+        let room : n < length now.tasks = omega (arith, done.sized) in record {
+          others = ap (λ (x : State). with_tasks x (set now.tasks n q)) done.others;
+          sized = length-set now.tasks n q ∙ done.sized;
+          changed = changed_more (releasing sheet st.t) st.tasks now.tasks n done.changed room q here;
+        }
 
-    pub releases_no : releases_at st.t (task_of bytes (get_or table.entries i no_entry)) ≡ false
-        → next ≡ with_tasks st (changed_below (i + 1) (releasing bytes table st.t) st.tasks)
+    pub releases_no : releases_at now.t task ≡ false → Releasing sheet st now (n + 1)
     releases_no e =
-        inv ∙ ap (with_tasks st) (changed_same (releasing bytes table st.t) st.tasks i (omega arith)
-        (released_not st.t (task_at (sheet_of bytes table) i) (record_at st.tasks i) (ap (releases_at st.t) (sym task_here) ∙ e)))
+        let quiet : releases_at st.t (task_at sheet n) ≡ false = rw (← same_time, ← et) e in record {
+          others = done.others;
+          sized = done.sized;
+          changed = changed_same (releasing sheet st.t) st.tasks now.tasks n done.changed (sym (released_not st.t (task_at sheet n) (record_at now.tasks n) quiet));
+        }
 
 -- where no task has a release nothing is released
 pub releases_quiet : (sheet : Sheet) (st : State) (due : ℕ) → length st.tasks ≡ 16 → Quiet st.t due sheet → st.t < due → st ≡ with_tasks st (after_releases sheet st)
@@ -254,131 +187,125 @@ releases_quiet sheet st due z quiet l = ap (with_tasks st) (same_records st.task
     (λ (v : length sheet.tasks ≤ i). rw (le-ltb i (length sheet.tasks) v) refl)
     (below i (length sheet.tasks)))))
 
--- the quiet ticks, one task more
-module _ (bytes : List ℕ) (table : Table) (from i : ℕ) (l : i < table.n) (due next both : ℕ) (first : both ≤ due) (second : both ≤ next)
-    (inv : (j : ℕ) → j < i → Rests from due (task_at (sheet_of bytes table) j)) (e : Entry) (here : e ≡ entry_of table i) (rests : Rests from next (task_of bytes e)) where
-  pub quiet_more : (j : ℕ) → j < i + 1 → Rests from both (task_at (sheet_of bytes table) j)
-  quiet_more j u k f h = ⊎_elim
-      (λ (v : j < i). inv j v k f (omega arith))
-      (λ (v : i ≤ j).
-      let z : j ≡ i = omega arith in
-      ap (λ (n : ℕ). releases_at k (task_at (sheet_of bytes table) n)) z ∙ ap (releases_at k) (task_at_lem bytes table i ∙ ap (task_of bytes) (sym here)) ∙ rests k f (omega arith))
-      (below j i)
-
--- rule 6: the jobs above the runner
-pub blocked_yes : (r : TaskRecord) → r.job.pending ≡ true → blocked_once r ≡ was_blocked r
+-- rule 6: each of some records is blocked once where its job is pending
+pub blocked_yes : (r : TaskRecord) → r.job.pending ≡ true → was_blocked r ≡ blocked_once r
 unfolding blocked_once
-blocked_yes r p = if_cases (λ (q : TaskRecord). q ≡ was_blocked r) r.job.pending (was_blocked r) r (λ e. refl) (λ e. true_false r.job.pending p e)
+blocked_yes r p = rw p refl
 
-pub blocked_not : (r : TaskRecord) → r.job.pending ≡ false → blocked_once r ≡ r
+pub blocked_not : (r : TaskRecord) → r.job.pending ≡ false → r ≡ blocked_once r
 unfolding blocked_once
-blocked_not r p = simp p
+blocked_not r p = rw p refl
 
-module _ (st next : State) (i : ℕ) (inv : next ≡ with_tasks st (each_blocked i st.tasks)) (l : i < 16) where
-  pub blocked_here : record_at next.tasks i ≡ record_at st.tasks i
-  blocked_here = ap (λ (x : State). record_at x.tasks i) inv ∙ changed_here (λ i r. blocked_once r) st.tasks i l
+pub blocked_more : (old now : List TaskRecord) (n : ℕ) → n < length old → n < length now → now ≡ each_blocked n old
+    → (q : TaskRecord) → q ≡ blocked_once (record_at now n) → set now n q ≡ each_blocked (n + 1) old
+unfolding record_at each_blocked
+blocked_more old now n l u done q e = rw e (map_over_more blocked_once old now n (get_or now n blank) l done (get_or_default now n blank (get_or now n blank) u))
 
-  pub blocked_more : (q : TaskRecord) → q ≡ blocked_once (record_at next.tasks i) → with_tasks next (set next.tasks i q) ≡ with_tasks st (each_blocked (i + 1) st.tasks)
-  blocked_more q e =
-      ap (λ (x : State). with_tasks x (set x.tasks i q)) inv
-      ∙ ap (with_tasks st) (changed_more (λ i r. blocked_once r) st.tasks i l q (e ∙ ap blocked_once blocked_here))
+-- those that are not blocked yet
+blocked_back : (old : List TaskRecord) (n i : ℕ) → n ≤ length old → n ≤ i → record_at (each_blocked n old) i ≡ record_at old i
+unfolding record_at each_blocked
+blocked_back old n i u v =
+    let size : length (map blocked_once (take n old)) ≡ n = length-map (take n old) blocked_once ∙ length-take-le n old u in
+    let back : n + (i - n) ≡ i = omega arith in
+    get_or-append_right (map blocked_once (take n old)) (drop n old) n i blank size v ∙ get_or-drop n old (i - n) blank ∙ ap (λ k. get_or old k blank) back
 
-  pub blocked_no : (record_at next.tasks i).job.pending ≡ false → next ≡ with_tasks st (each_blocked (i + 1) st.tasks)
-  blocked_no p =
-      inv ∙ ap (with_tasks st) (changed_same (λ i r. blocked_once r) st.tasks i l
-      (blocked_not (record_at st.tasks i) (ap (λ (r : TaskRecord). r.job.pending) (sym blocked_here) ∙ p)))
+pub blocked_here : (records now : List TaskRecord) (n k : ℕ) → now ≡ each_blocked k (take n records) → k < length (take n records) → k < n → record_at now k ≡ record_at records k
+unfolding record_at
+blocked_here records now n k done l u = ap (λ rs. record_at rs k) done ∙ blocked_back (take n records) k k (omega arith) (omega arith) ∙ get_or-take n records k blank u
 
--- what a tick makes of a record, by where its rank stands to the runner's
-module _ (x t i : ℕ) (task : Task) (r : TaskRecord) where
-  spent_above : i < x → spent (job x) t i task r ≡ blocked_once r
-  unfolding spent blocked_once
-  spent_above l = rw (ne_eqb i x (λ e. omega arith), lt-ltb i x l) refl
+-- once all in front are blocked, so are those above the rank
+blocked_whole : (old : List TaskRecord) (n : ℕ) → length old ≤ n → each_blocked n old ≡ map blocked_once old
+unfolding each_blocked
+blocked_whole old n l = rw (take_all n old l, drop_past old n l) (append-nil (map blocked_once old))
 
-  spent_behind : x < i → spent (job x) t i task r ≡ r
-  unfolding spent
-  spent_behind l = rw (ne_eqb i x (λ e. omega arith), le-ltb i x (omega arith)) refl
+pub blocked_all : (records now : List TaskRecord) (x n k : ℕ) → length records ≡ 16 → n ≡ min x 16 → now ≡ each_blocked k (take n records) → length (take n records) ≤ k
+    → now ++ drop n records ≡ each_blocked x records
+unfolding each_blocked
+blocked_all records now x n k sized en done l = ap (λ rs. rs ++ drop n records) (done ∙ blocked_whole (take n records) k l) ∙ ⊎_elim
+    (λ (v : x < 16). let e : n ≡ x = omega arith in rw e refl)
+    (λ (v : 16 ≤ x). blocked_whole records n (omega arith) ∙ sym (blocked_whole records x (omega arith)))
+    (below x 16)
 
-pub spent_runner : (t x : ℕ) (task : Task) (r a : TaskRecord) (c : Counts) → a ≡ advanced t task r → c ≡ up TicksRun a.counts
-    → record { job = a.job; counts = c } ≡ spent (job x) t x task r
+module _ (x : ℕ) (records : List TaskRecord) (sized : length records ≡ 16) where
+  blocked_size : length (each_blocked x records) ≡ 16
+  unfolding each_blocked
+  blocked_size =
+      length-append (map blocked_once (take x records)) (drop x records) ∙ ap (λ k. k + length (drop x records)) (length-map (take x records) blocked_once)
+      ∙ sym (length-append (take x records) (drop x records)) ∙ ap length (take-append-drop x records) ∙ sized
+
+  blocked_in : (i : ℕ) → i < 16 → i < x → record_at (each_blocked x records) i ≡ blocked_once (record_at records i)
+  unfolding record_at each_blocked
+  blocked_in i l v =
+      let inside : i < length (take x records) = omega (arith, length-take x records) in
+      let mapped : i < length (map blocked_once (take x records)) = rw length-map inside in
+      get_or-append (map blocked_once (take x records)) (drop x records) blank i mapped ∙ get_or-map blocked_once (take x records) i blank blank inside
+      ∙ ap blocked_once (get_or-take x records i blank v)
+
+  pub blocked_out : (i : ℕ) → i < 16 → x ≤ i → record_at (each_blocked x records) i ≡ record_at records i
+  blocked_out i l v = blocked_back records x i (omega arith) v
+
+-- where nobody runs every record stays
+spent_nobody : (x : Runner) → ((k : ℕ) → x ≡ Rank k → ⊥) → (t i : ℕ) (task : Task) (r : TaskRecord) → spent x t i task r ≡ r
 unfolding spent
-spent_runner t x task r a c ea ec = rw (eq-eqb x x refl, ec, ea) refl
+spent_nobody (Rank k) none t i task r = absurd (none k refl)
+spent_nobody Stuck none t i task r = refl
+spent_nobody Idle none t i task r = refl
 
-module _ (bytes : List ℕ) (table : Table) (st : State) (x : ℕ) where
-  ran_at : (i : ℕ) → i < 16 → record_at (after_runner (runner_named x) (sheet_of bytes table) st.t st.tasks) i
-      ≡ spent (runner_named x) st.t i (task_at (sheet_of bytes table) i) (record_at st.tasks i)
-  ran_at i l = spent_at (runner_named x) (sheet_of bytes table) st.t st.tasks i l
+-- what a tick makes of a record that is not the runner's
+spent_other : (t x i : ℕ) (task : Task) (r : TaskRecord) → (i ≡ x → ⊥) → spent (Rank x) t i task r ≡ (if i <? x then blocked_once r else r)
+unfolding spent blocked_once
+spent_other t x i task r n = rw (ne_eqb i x n) (go (i <? x) r.job.pending)
+  where
+    go : (a b : Bool) → (if a && b then was_blocked r else r) ≡ (if a then (if b then was_blocked r else r) else r)
+    go true b = refl
+    go false b = refl
 
-  ran_length : length (after_runner (runner_named x) (sheet_of bytes table) st.t st.tasks) ≡ 16
-  unfolding after_runner
-  ran_length = length_row 16 _
+ran_length : (sheet : Sheet) (t : ℕ) (records : List TaskRecord) (x : Runner) → length (after_runner x sheet t records) ≡ 16
+unfolding after_runner
+ran_length sheet t records x = length_row 16 _
 
-  -- 254 and 255 leave every record
-  nobody : 16 ≤ x → (i : ℕ) (task : Task) (r : TaskRecord) → spent (runner_named x) st.t i task r ≡ r
-  unfolding runner_named spent
-  nobody h i task r = rw (le-ltb x 16 h) (go (x =? 254))
-    where
-      go : (b : Bool) → spent (if b then stuck else idle) st.t i task r ≡ r
-      go true = refl
-      go false = refl
+pub ran_nobody : (sheet : Sheet) (t : ℕ) (records : List TaskRecord) (x : Runner) → ((k : ℕ) → x ≡ Rank k → ⊥) → length records ≡ 16
+    → records ≡ after_runner x sheet t records
+ran_nobody sheet t records x none z = same_records records (after_runner x sheet t records) z (ran_length sheet t records x) (λ i l.
+    sym (spent_at x sheet t records i l ∙ spent_nobody x none t i (task_at sheet i) (record_at records i)))
 
-  pub ran_nobody : 16 ≤ x → length st.tasks ≡ 16 → st ≡ with_tasks st (after_runner (runner_named x) (sheet_of bytes table) st.t st.tasks)
-  ran_nobody h z = ap (with_tasks st) (same_records st.tasks _ z ran_length (λ i l.
-      sym (ran_at i l ∙ nobody h i (task_at (sheet_of bytes table) i) (record_at st.tasks i))))
+-- a rank runs, once the records in front of it are blocked
+module _ (sheet : Sheet) (st : State) (x : ℕ) (now : List TaskRecord) (sized : length st.tasks ≡ 16) (done : now ≡ each_blocked x st.tasks) where
+  pub runner_stays : x < 16 → record_at now x ≡ record_at st.tasks x
+  runner_stays l = ap (λ rs. record_at rs x) done ∙ blocked_out x st.tasks sized x l (omega arith)
 
-  module _ (h : x < 16) where
-    someone : runner_named x ≡ job x
-    unfolding runner_named
-    someone = rw (lt-ltb x 16 h) refl
+  now_sized : length now ≡ 16
+  now_sized = ap length done ∙ blocked_size x st.tasks sized
 
-    pub ran_job : (next : State) → next ≡ with_tasks st (each_blocked x st.tasks) → (e : Entry) → e ≡ entry_of table x
-        → (q : TaskRecord) → q ≡ spent (job x) st.t x (task_of bytes e) (record_at next.tasks x)
-        → with_tasks next (set next.tasks x q) ≡ with_tasks st (after_runner (runner_named x) (sheet_of bytes table) st.t st.tasks)
-    ran_job next en e ee q eq =
-        let above = each_blocked x st.tasks in
-        let task = ap (task_of bytes) ee ∙ sym (task_at_lem bytes table x) in
-        let here = blocked_here st next x en h in
-        let runner : q ≡ spent (job x) st.t x (task_at (sheet_of bytes table) x) (record_at st.tasks x) = eq ∙ rw (task, here) refl in
-        ap (λ (y : State). with_tasks y (set y.tasks x q)) en
-        ∙ ap (with_tasks st) (same_records (set above x q) _ (length-set above x q ∙ changed_length (λ i r. blocked_once r) st.tasks x) ran_length (λ i l.
-        set_at above x q (changed_length (λ i r. blocked_once r) st.tasks x) h i ∙ ⊎_elim
-        (λ (v : (i =? x) ≡ true). let w = eqb-true i x v in rw (v, w, runner) (sym (ran_at x h ∙ ap (λ (ρ : Runner). spent ρ st.t x (task_at (sheet_of bytes table) x) (record_at st.tasks x)) someone)))
-        (λ (v : (i =? x) ≡ false). let w = eqb-false i x v in rw v (⊎_elim
-        (λ (m : i < x). changed_in (λ i r. blocked_once r) st.tasks x i l m ∙ sym (spent_above x st.t i (task_at (sheet_of bytes table) i) (record_at st.tasks i) m))
-        (λ (m : x ≤ i). changed_out (λ i r. blocked_once r) st.tasks x i l m
-        ∙ sym (spent_behind x st.t i (task_at (sheet_of bytes table) i) (record_at st.tasks i) (⊎_elim (λ (k : x < i). k) (λ (k : i ≤ x). absurd (w (omega arith))) (below x i))))
-        (below i x) ∙ sym (ran_at i l ∙ ap (λ (ρ : Runner). spent ρ st.t i (task_at (sheet_of bytes table) i) (record_at st.tasks i)) someone)))
-        (sure (i =? x))))
+  ran_others : (i : ℕ) → i < 16 → (i ≡ x → ⊥) → record_at now i ≡ record_at (after_runner (Rank x) sheet st.t st.tasks) i
+  ran_others i l n =
+      let other = spent_at (Rank x) sheet st.t st.tasks i l ∙ spent_other st.t x i (task_at sheet i) (record_at st.tasks i) n in
+      ap (λ rs. record_at rs i) done ∙ ⊎_elim
+      (λ (v : i < x). blocked_in x st.tasks sized i l v ∙ sym (other ∙ rw (lt-ltb i x v) refl))
+      (λ (v : x ≤ i). blocked_out x st.tasks sized i l v ∙ sym (other ∙ rw (le-ltb i x v) refl))
+      (below i x)
 
--- a runner's byte names it
-pub byte_back : (x : Runner) → ((k : ℕ) → x ≡ job k → k < 16) → runner_named (runner_byte x) ≡ x
-unfolding runner_named runner_byte
-byte_back (job k) rank = rw (lt-ltb k 16 (rank k refl)) refl
-byte_back stuck rank = refl
-byte_back idle rank = refl
+  module _ (ρ : Runner) (eρ : ρ ≡ Rank x) where
+    of_rank : (records : List TaskRecord) → length records ≡ 16 → ((i : ℕ) → i < 16 → record_at records i ≡ record_at (after_runner (Rank x) sheet st.t st.tasks) i)
+        → with_tasks st records ≡ with_tasks st (after_runner ρ sheet st.t st.tasks)
+    of_rank records z h =
+        ap (with_tasks st) (same_records records (after_runner (Rank x) sheet st.t st.tasks) z (ran_length sheet st.t st.tasks (Rank x)) h)
+        ∙ ap (λ (y : Runner). with_tasks st (after_runner y sheet st.t st.tasks)) (sym eρ)
 
--- rule 7: the job that ran last,
-module _ (x : ℕ) (st : State) where
-  pub last_stays : 16 ≤ x → st.last ≡ ran_last (runner_named x) st.tasks st.last
-  unfolding runner_named ran_last
-  last_stays h = rw (le-ltb x 16 h) (go (x =? 254))
-    where
-      go : (b : Bool) → st.last ≡ ran_last (if b then stuck else idle) st.tasks st.last
-      go true = refl
-      go false = refl
+    pub runner_ran : x < 16 → (q : TaskRecord) → q ≡ spent (Rank x) st.t x (task_at sheet x) (record_at now x)
+        → with_tasks st (set now x q) ≡ with_tasks st (after_runner ρ sheet st.t st.tasks)
+    unfolding record_at
+    runner_ran h q e = of_rank (set now x q) (length-set now x q ∙ now_sized) (λ i l. ⊎_elim
+        (λ (v : (i =? x) ≡ true). let w = eqb-true i x v in
+        rw w (get_or-set_same now x q blank (rw now_sized h) ∙ e ∙ rw (runner_stays h) refl ∙ sym (spent_at (Rank x) sheet st.t st.tasks x h)))
+        (λ (v : (i =? x) ≡ false). let w = eqb-false i x v in get_or-set_other now x i q blank w ∙ ran_others i l w)
+        (sure (i =? x)))
 
-  pub last_runner : x < 16 → (j : LastJob) → j ≡ last_job x (get_or st.tasks x blank).job.release → j ≡ ran_last (runner_named x) st.tasks st.last
-  unfolding runner_named ran_last record_at
-  last_runner h j e = rw (lt-ltb x 16 h) e
+    -- a rank past the sixteen blocks them all
+    pub runner_past : 16 ≤ x → with_tasks st now ≡ with_tasks st (after_runner ρ sheet st.t st.tasks)
+    runner_past h = of_rank now now_sized (λ i l. ran_others i l (λ e. omega arith))
 
--- and the switches
-module _ (switches : ℕ) (before last : LastJob) (a : Bool) (ea : a ≡ same_job last before) where
-  pub switch_not : a ≡ true → switches ≡ (if same_job last before then switches else switches + 1)
-  switch_not h = rw (← ea, h) refl
-
-  pub switch_more : a ≡ false → switches + 1 ≡ (if same_job last before then switches else switches + 1)
-  switch_more h = rw (← ea, h) refl
-
-pub closed_with : (st : State) (last : LastJob) (switches : ℕ) → switches ≡ (if same_job last st.last then st.switches else st.switches + 1)
-    → record { t = st.t + 1; switches = switches; last = last; tasks = st.tasks } ≡ closed st last st.tasks
-unfolding closed
-closed_with st last switches e = rw e refl
+-- a task without steps is the one past the last
+pub without_steps : (t x : ℕ) (r : TaskRecord) (task : Task) → task ≡ record { period = 1; offset = 0; steps = [] } → spent (Rank x) t x task r ≡ spent (Rank x) t x no_task r
+unfolding spent advanced behind_unlocks next_run left_of_run ahead
+without_steps t x r task e = rw e refl

@@ -2,142 +2,106 @@
 // tick's end (rule 7). Each contract names the definition of rules/specs/Tick.antt that the function is equal to.
 #![tactic(auto)]
 
-ghost use Rattle.std.specs.Prelude.{◌≡◌, List, true, ℕ, ◌+◌, ◌-◌, ◌<◌, ◌≤◌, drop, if◌then◌else◌};
+ghost use Rattle.std.specs.Prelude.{◌≡◌, Bool, true, ℕ, ◌+◌, ◌-◌, ◌<◌, ◌≤◌, max, drop, if◌then◌else◌};
 ghost use Rattle.rules.specs.Words.{leading};
-ghost use Rattle.rules.specs.Choice.{full, job};
+ghost use Rattle.rules.specs.Sheet.{Step as Rules·Step, no_task};
 ghost use Rattle.rules.specs.Fields.{with_tasks, same_job};
 ghost use Rattle.rules.specs.Tick.{releases_at, released, after_releases, left_of_run, next_run, advanced, spent, after_runner, ran_last, closed};
-ghost use Rattle.table.specs.Table.{task_of, sheet_of, Lies, Tabled};
-ghost use Rattle.table.specs.Steps.{of_kind};
+ghost use Rattle.rules.specs.declared.Runner.TheVariants.{Rank};
 ghost use Rattle.record.specs.Room.{CountsBelow, AllBelow};
-ghost use Rattle.effect.specs.Effect.{runner_named, Rests, Quiet, each_blocked};
+ghost use Rattle.effect.specs.Effect.{Rests, Quiet, each_blocked, Tells};
 
-use rules::{Job, LastJob, State, TaskRecord};
-use table::{Entry, Kind, Table};
+use rules::{Count, Job, LastJob, Runner, State, TaskRecord};
+use table::{Step, Table, Task};
 
-// Rule 1: whether a task, whatever its steps, has a release at t.
-fn releases_at(t: u16, e: Entry) -> bool
-    requires { 1 ≤ e.period }
-    ensures { (bytes : List ℕ) → result ≡ releases_at t (task_of bytes e) }
+// CountsBelow and AllBelow stay clauses: the room for a tick's counts is there at one moment of the tick and gone at the next, and
+// any numbers may stand in a State.
+
+// Rule 1: whether a task has a release at t.
+#[tactic(auto, unfolding(rules::specs::Tick::releases_at))]
+fn releases_at(t: u16, task: &Task) -> bool
+    ensures { result ≡ releases_at t task.now }
 {
-    if t < e.offset {
-        return false;
-    }
-    (t - e.offset) % e.period == 0
-}
-
-// The ticks left on coming to a position: a run's full length, else 0.
-fn full_at(s: &[u8], e: Entry, p: usize) -> u16
-    requires { Lies s.now e }
-    ensures { result ≡ full (drop p (task_of s.now e).steps) }
-{
-    table::ticks_of(table::step_at(s, e, p))
+    task.offset() <= t && (t - task.offset()) % task.period() == 0
 }
 
 // The record of a task that has a release at t.
-fn released(s: &[u8], e: Entry, t: u16, r: TaskRecord) -> TaskRecord
-    requires lies { Lies s.now e }
+#[tactic(auto, unfolding(rules::specs::Tick::released))]
+fn released(t: u16, task: &Task, r: TaskRecord) -> TaskRecord
     requires counts_below { CountsBelow 65535 r.counts }
-    requires e_value { releases_at t (task_of s.now e) ≡ true }
-    ensures { result ≡ released t (task_of s.now e) r }
+    requires due { releases_at t task.now ≡ true }
+    ensures { result ≡ released t task.now r }
 {
-    let j = r.job;
-    let c = record::releases_up(r.counts);
-    if j.pending {
-        let d = record::misses_up(c);
-        return TaskRecord { job: j, counts: d };
+    let counts = record::up(Count::Releases, r.counts);
+    if r.job.pending {
+        let counts = record::up(Count::Misses, counts);
+        return TaskRecord { counts, ..r };
     }
-    let left = full_at(s, e, 0);
-    let started = record::standing(0, left, t, 0);
-    TaskRecord {
-        job: started,
-        counts: c,
-    }
+    let job = record::standing(0, task.full_at(0), t, 0);
+    TaskRecord { job, counts }
 }
 
 // The state after the releases of its tick. Records at n and above are not looked at.
-pub fn after_releases(s: &[u8], table: Table, st: State) -> State
-    requires tabled { Tabled s.now table }
-    requires all_below { AllBelow 65535 st.tasks }
-    ensures { result ≡ with_tasks st (after_releases (sheet_of s.now table) st) }
+pub fn after_releases(table: &Table, mut st: State) -> State
+    requires { AllBelow 65535 st.tasks }
+    ensures { result ≡ with_tasks st (after_releases table.now st) }
 {
-    let mut next = st;
-    let t = st.t;
-    let n = table.n as usize;
-    let mut i: usize = 0;
-    while i < n {
-        let e = table.entries[i];
-        if releases_at(t, e) {
-            let r = next.tasks[i];
-            let q = released(s, e, t, r);
-            next.tasks[i] = q;
+    for (i, task) in table.tasks().iter().enumerate() {
+        if releases_at(st.t, task) {
+            st.tasks[i] = released(st.t, task, st.tasks[i]);
         }
-        i += 1;
     }
-    next
+    st
 }
 
 // The task's first release after t.
-fn next_release(t: u16, e: Entry) -> u32
-    requires { 1 ≤ e.period }
-    ensures { (bytes : List ℕ) → Rests (t + 1) result (task_of bytes e) }
+#[tactic(auto, using(crate::proofs::Laws::rests_early, crate::proofs::Laws::rests_then))]
+fn next_release(t: u16, task: &Task) -> u32
+    ensures { Rests (t + 1) result task.now }
 {
-    if t < e.offset {
-        return e.offset as u32;
+    let offset = task.offset();
+    if t < offset {
+        return u32::from(offset);
     }
-    let since = (t - e.offset) % e.period;
-    (t as u32) + ((e.period - since) as u32)
-}
-
-fn smaller(a: u32, b: u32) -> u32
-    ensures { (result ≤ a) × (result ≤ b) }
-{
-    if a < b {
-        return a;
-    }
-    b
+    let since = (t - offset) % task.period();
+    u32::from(t) + u32::from(task.period() - since)
 }
 
 // A tick before which no task has a release after t: the first of their next ones, 60,000 at most, where every run has ended.
-pub fn quiet_until(s: &[u8], table: Table, t: u16) -> u32
-    requires { Tabled s.now table }
-    ensures { Quiet (t + 1) result (sheet_of s.now table) }
+pub fn quiet_until(table: &Table, t: u16) -> u32
+    ensures { Quiet (t + 1) result table.now }
 {
-    let n = table.n as usize;
-    let mut due: u32 = 60000;
-    let mut i: usize = 0;
-    while i < n {
-        let e = table.entries[i];
-        let next = next_release(t, e);
-        due = smaller(due, next);
-        i += 1;
+    let mut due = 60000;
+    for task in table.tasks() {
+        due = next_release(t, task).min(due);
     }
     due
 }
 
-// Past the steps of a kind that stand from a position on.
-fn past(s: &[u8], e: Entry, from: usize, kind: Kind) -> usize
-    requires { Lies s.now e }
-    ensures { result ≡ from + leading (of_kind kind) (drop from (task_of s.now e).steps) }
+// Past the steps from a position on that pass a test.
+fn past<F: Fn(Step) -> bool>(task: &Task, from: usize, passes: F) -> usize
+    requires { F.IsAlwaysCallable passes }
+    ensures value { (test : Rules·Step → Bool) → Tells (F.post passes) test → result ≡ from + leading test (drop from task.now.steps) }
+    ensures within { result ≤ max from 64 }
 {
-    let mut p = from;
-    while table::is_of(table::step_at(s, e, p), kind) {
-        p += 1;
-    }
-    p
+    from + task
+        .steps()
+        .iter()
+        .skip(from)
+        .take_while(|x| passes(**x))
+        .count()
 }
 
 // Rule 5: the ticks left of the next run, which stands at p.
-fn left_of_run(s: &[u8], e: Entry, j: Job, p: usize) -> u16
-    requires lies { Lies s.now e }
-    requires p_value { p ≡ next_run (task_of s.now e) j }
-    ensures { result ≡ left_of_run (task_of s.now e) j }
+#[tactic(auto, unfolding(rules::specs::Tick::left_of_run))]
+fn left_of_run(task: &Task, j: Job, p: usize) -> u16
+    requires { p ≡ next_run task.now j }
+    ensures { result ≡ left_of_run task.now j }
 {
-    let from = j.position as usize;
-    if p == from {
+    if p == usize::from(j.position) {
         return j.left;
     }
-    full_at(s, e, p)
+    task.full_at(p)
 }
 
 // The ticks from a release to the end of tick t.
@@ -145,110 +109,104 @@ fn response(t: u16, release: u16) -> u16
     requires { t < 65535 }
     ensures { result ≡ t + 1 - release }
 {
-    if t + 1 < release {
-        return 0;
-    }
-    t + 1 - release
+    (t + 1).saturating_sub(release)
 }
 
 // The record of the job that runs.
-fn advanced(s: &[u8], e: Entry, t: u16, r: TaskRecord) -> TaskRecord
-    requires lies { Lies s.now e }
+#[tactic(auto, unfolding(rules::specs::Tick::advanced, rules::specs::Tick::behind_unlocks, rules::specs::Tick::next_run, rules::specs::Record::ahead))]
+fn advanced(t: u16, task: &Task, r: TaskRecord) -> TaskRecord
     requires counts_below { CountsBelow 65535 r.counts }
     requires t_bound { t < 65535 }
-    ensures { result ≡ advanced t (task_of s.now e) r }
+    ensures { result ≡ advanced t task.now r }
 {
     let j = r.job;
-    let c = r.counts;
-    let p = past(s, e, j.position as usize, Kind::Lock);
-    let left = left_of_run(s, e, j, p);
+    let p = past(task, usize::from(j.position), Step::is_lock);
+    let left = left_of_run(task, j, p);
     if 1 < left {
-        let going_on = record::moved_to(p as u8, left - 1, j);
-        return TaskRecord {
-            job: going_on,
-            counts: c,
-        };
+        let job = record::moved_to(p as u8, left - 1, j);
+        return TaskRecord { job, ..r };
     }
-    let next = past(s, e, p + 1, Kind::Unlock);
-    if next < e.count as usize {
-        let f = full_at(s, e, next);
-        let further = record::moved_to(next as u8, f, j);
-        return TaskRecord {
-            job: further,
-            counts: c,
-        };
+    let next = past(task, p + 1, Step::is_unlock);
+    if next < task.count() {
+        let job = record::moved_to(next as u8, task.full_at(next), j);
+        return TaskRecord { job, ..r };
     }
-    let d = record::completed(response(t, j.release), c);
-    let none = record::no_job();
+    let counts = record::completed(response(t, j.release), r.counts);
     TaskRecord {
-        job: none,
-        counts: d,
+        job: record::no_job(),
+        counts,
     }
 }
 
 // Rule 6, first half: the runner's record, with its ticks run.
-fn ran(s: &[u8], e: Entry, t: u16, i: usize, r: TaskRecord) -> TaskRecord
-    requires lies { Lies s.now e }
+fn ran(t: u16, task: &Task, r: TaskRecord) -> TaskRecord
     requires counts_below { CountsBelow 65535 r.counts }
     requires t_bound { t < 65535 }
-    ensures { result ≡ spent (job i) t i (task_of s.now e) r }
+    ensures { (i : ℕ) → result ≡ spent (Rank i) t i task.now r }
 {
-    let a = advanced(s, e, t, r);
-    let j = a.job;
-    let c = record::ran_up(a.counts);
-    TaskRecord { job: j, counts: c }
+    let a = advanced(t, task, r);
+    let counts = record::up(Count::TicksRun, a.counts);
+    TaskRecord { counts, ..a }
+}
+
+// A rank past the last one has no steps. (Apart, since the room that a task takes is paid for at each call.)
+#[cold]
+#[inline(never)]
+#[tactic(auto, using(crate::proofs::Laws::without_steps))]
+fn ran_without_steps(t: u16, r: TaskRecord) -> TaskRecord
+    requires counts_below { CountsBelow 65535 r.counts }
+    requires t_bound { t < 65535 }
+    ensures { (i : ℕ) → result ≡ spent (Rank i) t i no_task r }
+{
+    ran(t, &Task::new(1, 0), r)
 }
 
 // Rule 6, second half: the pending jobs of smaller rank than the runner are blocked for this tick.
-fn blocked_above(x: usize, st: State) -> State
-    requires x_bound { x < 16 }
-    requires all_below { AllBelow 65535 st.tasks }
-    ensures { result ≡ with_tasks st (each_blocked x st.tasks) }
+fn blocked_above(x: usize, records: &mut [TaskRecord; 16])
+    requires { AllBelow 65535 records.old }
+    ensures { records.new ≡ each_blocked x records.old }
 {
-    let mut next = st;
-    let mut i: usize = 0;
-    while i < x {
-        let r = next.tasks[i];
-        let j = r.job;
-        if j.pending {
-            let q = record::was_blocked(r);
-            next.tasks[i] = q;
+    for r in &mut records[..x.min(16)] {
+        if r.job.pending {
+            *r = record::was_blocked(*r);
         }
-        i += 1;
     }
-    next
 }
 
-// The state after the runner's tick; 254 and 255 leave every record. Records behind the runner's are not looked at.
-pub fn after_runner(s: &[u8], table: Table, x: u8, st: State) -> State
-    requires tabled { Tabled s.now table }
+// The state after the runner's tick; where nobody runs it stays. Records behind the runner's are not looked at.
+pub fn after_runner(table: &Table, x: Runner, mut st: State) -> State
     requires all_below { AllBelow 65535 st.tasks }
     requires t_bound { st.t < 65535 }
-    ensures { result ≡ with_tasks st (after_runner (runner_named x) (sheet_of s.now table) st.t st.tasks) }
+    ensures { result ≡ with_tasks st (after_runner x table.now st.t st.tasks) }
 {
-    if 16 <= x {
+    let Runner::Rank(rank) = x else {
         return st;
+    };
+    let i = usize::from(rank);
+    blocked_above(i, &mut st.tasks);
+    if i < st.tasks.len() {
+        let r = st.tasks[i];
+        st.tasks[i] = match table.tasks().get(i) {
+            Some(task) => ran(st.t, task, r),
+            None => ran_without_steps(st.t, r),
+        };
     }
-    let i = x as usize;
-    let e = table::entry_at(table, i);
-    let mut next = blocked_above(i, st);
-    let r = next.tasks[i];
-    let q = ran(s, e, st.t, i, r);
-    next.tasks[i] = q;
-    next
+    st
 }
 
-// Rule 7: the job that ran last, once the runner has run; 254 and 255 leave it. It is asked before the runner's tick, in which
-// the job may complete.
-pub fn ran_last(x: u8, st: State) -> LastJob
-    ensures { result ≡ ran_last (runner_named x) st.tasks st.last }
+// Rule 7: the job that ran last, once the runner has run; where nobody runs it stays. It is asked before the runner's tick, in
+// which the job may complete.
+#[tactic(auto, unfolding(rules::specs::Tick::ran_last, rules::specs::Record::record_at))]
+pub fn ran_last(x: Runner, st: State) -> LastJob
+    ensures { result ≡ ran_last x st.tasks st.last }
 {
-    if 16 <= x {
-        return st.last;
+    match x {
+        Runner::Rank(rank) => {
+            let release = st.tasks.get(usize::from(rank)).map_or(0, |r| r.job.release);
+            record::last_job(rank, release)
+        }
+        Runner::Stuck | Runner::Idle => st.last,
     }
-    let r = st.tasks[x as usize];
-    let j = r.job;
-    record::last_job(x, j.release)
 }
 
 fn switches_after(switches: u16, before: LastJob, last: LastJob) -> u16
@@ -262,14 +220,14 @@ fn switches_after(switches: u16, before: LastJob, last: LastJob) -> u16
 }
 
 // The state at the end of its tick, with the job that ran last.
-pub fn closed(last: LastJob, st: State) -> State
+#[tactic(auto, unfolding(rules::specs::Tick::closed))]
+pub fn closed(last: LastJob, mut st: State) -> State
     requires t_bound { st.t < 65535 }
     requires switches_bound { st.switches < 65535 }
     ensures { result ≡ closed st last st.tasks }
 {
-    let mut next = st;
-    next.switches = switches_after(st.switches, st.last, last);
-    next.last = last;
-    next.t = st.t + 1;
-    next
+    st.switches = switches_after(st.switches, st.last, last);
+    st.last = last;
+    st.t += 1;
+    st
 }

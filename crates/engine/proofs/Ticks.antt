@@ -1,171 +1,171 @@
--- Laws of a tick and of a run: what each part of a tick asks, and one tick more.
-use Prim.Native.Nat.{ℕ, zero, suc, ◌+◌, ◌≤◌, ◌<◌}
-use mathlib.Core.Path.{◌≡◌, refl, sym, ap, ◌∙◌, subst}
-use mathlib.Core.List.{List, [], ◌∷◌, ◌++◌, append_assoc}
+-- Laws of a tick: what each part of it asks, and that the parts are the tick.
+use Prim.Native.Nat.{ℕ, ◌+◌, ◌<◌}
+use mathlib.Core.Path.{◌≡◌, refl, sym, ap, ap₂, ◌∙◌, subst}
+use mathlib.Core.List.{List}
 use mathlib.Core.Bool.{true}
 use native.Mathlib.Omega.{arith}
-use native.Mathlib.Numerals.{add-one}
-use lib.ListN.{length, get_or, set, drop}
-use lib.Seq.{drop-cons, set_at}
-use borrow.Author.Tests.{lt-ltb}
-use Rattle.rules.specs.Words.{row}
+use lib.ListN.{length, get_or}
 use Rattle.rules.specs.Sheet.{Task, Sheet, task_at}
-use Rattle.rules.specs.Reading.{read, read_sheet}
-use Rattle.rules.specs.Fields.{start, with_tasks}
+use Rattle.rules.specs.Fields.{blank, with_tasks}
 use Rattle.rules.specs.Record.{record_at, possible}
-use Rattle.rules.specs.Choice.{Runner, job, runner_byte, runner}
+use Rattle.rules.specs.Choice.{runner}
 use Rattle.rules.specs.Tick.{after_releases, after_runner, ran_last, closed, runner_of, tick}
-use Rattle.rules.specs.Run.{after, trace, written}
+use Rattle.rules.specs.Laws.{MayRun}
 use Rattle.rules.specs.declared.TaskRecord.{TaskRecord}
 use Rattle.rules.specs.declared.LastJob.{LastJob}
 use Rattle.rules.specs.declared.State.{State}
+use Rattle.rules.specs.declared.Runner.{Runner}
+use Rattle.rules.specs.declared.Runner.TheVariants.{Rank, Stuck, Idle}
 use Rattle.rules.proofs.Laws.{length_row}
 use Rattle.rules.proofs.Possible.{Possible, possible_parts}
-use Rattle.rules.proofs.Runner.{runner_below}
-use Rattle.rules.proofs.Kept.{start_possible, risen, released_rising, released_present, may_run, after_time, after_possible}
+use Rattle.rules.proofs.Kept.{risen, released_rising, released_present, may_run}
+use Rattle.table.specs.Table.{Accepted}
 use Rattle.holders.specs.Holders.{holders, after_tick}
-use Rattle.choice.specs.Choosable.{Choosable}
 use Rattle.holders.proofs.Moves.{holders_released, holders_still, holders_ticked}
-use Rattle.choice.proofs.Choosable.{choosable as choosable-released}
 use Rattle.record.specs.Room.{AllBelow}
-use Rattle.effect.specs.Effect.{runner_named, Quiet}
-use Rattle.effect.proofs.Laws.{byte_back}
+use Rattle.choice.specs.Choosable.{Choosable}
+use Rattle.choice.proofs.Choosable.{choosable as choosable-released}
+use Rattle.effect.specs.Effect.{Quiet}
+use Rattle.engine.specs.AtHand.{AtHand, Ready, after_runner_tick}
 
--- the byte of the runner names it, and its tick is that of the rules
-module _ (sheet : Sheet) (st a : State) (x : ℕ) (ea : a ≡ with_tasks st (after_releases sheet st)) (ex : x ≡ runner_byte (runner sheet a.tasks)) where
-  pub byte_of : x ≡ runner_byte (runner_of sheet st)
-  unfolding runner_of
-  byte_of = ex ∙ ap (λ (y : State). runner_byte (runner sheet y.tasks)) ea
+pub ready : {sheet : Sheet} {st : State} → Accepted sheet → possible sheet st ≡ true → st.t < 60000 → Ready sheet st
+ready a p e = record { accepted = a; possible_value = p; early = e }
 
-  pub runner_of_lem : runner_named x ≡ runner sheet (after_releases sheet st)
-  unfolding runner_of
-  runner_of_lem = ap runner_named byte_of ∙ byte_back (runner sheet (after_releases sheet st)) (runner_below sheet (after_releases sheet st))
-
-pub ran_parts : (sheet : Sheet) (st a b : State) (x : ℕ) → a ≡ with_tasks st (after_releases sheet st) → x ≡ runner_byte (runner sheet a.tasks)
-    → b ≡ with_tasks a (after_runner (runner_named x) sheet a.t a.tasks) → b ≡ with_tasks st (after_runner (runner sheet (after_releases sheet st)) sheet st.t (after_releases sheet st))
-ran_parts sheet st a b x ea ex eb =
-    eb ∙ ap (λ (y : State). with_tasks y (after_runner (runner_named x) sheet y.t y.tasks)) ea
-    ∙ ap (λ (y : Runner). with_tasks st (after_runner y sheet st.t (after_releases sheet st))) (runner_of_lem sheet st a x ea ex)
-
--- a possible state has room to count on, before the releases and after them, and leaves the choice nothing open
-module _ (bytes : List ℕ) (sheet : Sheet) (e : read_sheet bytes ≡ read sheet) (st : State) (p : possible sheet st ≡ true) (early : st.t < 60000) where
+-- a state that is ready has room to count on
+module _ {sheet : Sheet} {st : State} (ρ : Ready sheet st) where
   parts : Possible sheet st
-  parts = possible_parts sheet st p
+  parts = possible_parts sheet st ρ.possible_value
 
   pub room : AllBelow 65535 st.tasks
-  room i l = (λ k. omega (arith, parts.counts i l k), omega (arith, (parts.present i l).0))
+  room i l = let p = parts in let e = ρ.early in (λ k. omega (arith, p.counts i l k), omega (arith, (p.present i l).0))
 
-  pub switches_room : st.switches < 65535
-  switches_room = omega (arith, parts.switches)
+-- after its releases, the table being the sheet's,
+pub record Released (sheet : Sheet) (st a : State) : Type 0 where
+  pub ready : Ready sheet st
+  pub value : a ≡ with_tasks st (after_releases sheet st)
 
-  module _ (a : State) (ea : a ≡ with_tasks st (after_releases sheet st)) where
-    records : a.tasks ≡ after_releases sheet st
-    records = ap (λ (x : State). x.tasks) ea
+pub released : {sheet table : Sheet} {st a : State} → table ≡ sheet → Ready sheet st → a ≡ with_tasks st (after_releases table st) → Released sheet st a
+released {st = st} te ρ ea = record { ready = ρ; value = ea ∙ ap (λ (s : Sheet). with_tasks st (after_releases s st)) te }
 
-    pub room_after : AllBelow 65535 a.tasks
-    room_after i l =
-        rw records (
-          λ k. omega (arith, risen st.t (record_at (after_releases sheet st) i).counts (released_rising bytes sheet e st parts i l) k),
-          omega (arith, (released_present bytes sheet e st parts i l).0),
-        )
+module _ {sheet : Sheet} {st a : State} (α : Released sheet st a) where
+  records : a.tasks ≡ after_releases sheet st
+  records = ap (λ (x : State). x.tasks) α.value
 
-    pub choosable : Choosable sheet a.tasks
-    choosable = subst (Choosable sheet) (sym records) (choosable-released bytes sheet e st parts)
+  -- it has room still, and leaves the choice nothing open
+  pub room_after : AllBelow 65535 a.tasks
+  room_after i l =
+      let p = parts α.ready in
+      let e = α.ready.early in
+      rw records (
+        λ k. omega (arith, risen st.t (record_at (after_releases sheet st) i).counts (released_rising α.ready.accepted.0 sheet α.ready.accepted.1 st p i l) k),
+        omega (arith, (released_present α.ready.accepted.0 sheet α.ready.accepted.1 st p i l).0),
+      )
 
-    pub sized_after : length a.tasks ≡ 16
-    unfolding after_releases
-    sized_after = ap length records ∙ length_row 16 _
+  pub sized_after : length a.tasks ≡ 16
+  unfolding after_releases
+  sized_after = ap length records ∙ length_row 16 _
 
-    pub holders_kept : (hs : List ℕ) → hs ≡ holders sheet st.tasks → hs ≡ holders sheet a.tasks
-    holders_kept hs eh = eh ∙ sym (holders_released bytes sheet e st parts) ∙ ap (holders sheet) (sym records)
+  pub time_after : a.t < 65535
+  time_after = omega (arith, α.ready.early, ap (λ (x : State). x.t) α.value)
 
-    module _ (x : ℕ) (ex : x ≡ runner_byte (runner sheet a.tasks)) (b : State) (eb : b ≡ with_tasks a (after_runner (runner_named x) sheet a.t a.tasks))
-        (hs : List ℕ) (eh : hs ≡ holders sheet st.tasks) where
-      abbrev next : List TaskRecord
-      next = after_runner (runner sheet (after_releases sheet st)) sheet st.t (after_releases sheet st)
+  pub choosable : Choosable sheet a.tasks
+  choosable = subst (Choosable sheet) (sym records) (choosable-released α.ready.accepted.0 sheet α.ready.accepted.1 st (parts α.ready))
 
-      spent : b.tasks ≡ next
-      spent = ap (λ (y : State). y.tasks) (ran_parts sheet st a b x ea ex eb)
+  pub holders_kept : {hs : List ℕ} → hs ≡ holders sheet st.tasks → hs ≡ holders sheet a.tasks
+  holders_kept eh = eh ∙ sym (holders_released α.ready.accepted.0 sheet α.ready.accepted.1 st (parts α.ready)) ∙ ap (holders sheet) (sym records)
 
-      -- the holders, where nobody runs
-      pub holders_nobody : 16 ≤ x → hs ≡ holders sheet b.tasks
-      unfolding runner_byte runner_of
-      holders_nobody h =
-          holders_kept hs eh ∙ ap (holders sheet) records
-          ∙ sym (holders_still bytes sheet e st parts (runner sheet (after_releases sheet st)) (may_run bytes sheet e st parts) (λ i z.
-          let byte : x ≡ i = byte_of sheet st a x ea ex ∙ ap runner_byte z in
-          let rank = runner_below sheet (after_releases sheet st) i z in
-          omega arith))
-          ∙ ap (holders sheet) (sym spent)
+  module _ {x : Runner} (ex : x ≡ runner sheet a.tasks) where
+    chosen : runner sheet (after_releases sheet st) ≡ x
+    chosen = ap (runner sheet) (sym records) ∙ sym ex
 
-      -- and where a job runs
-      pub holders_runner : x < 16 → (task : Task) → task ≡ task_at sheet x → (held : List ℕ)
-          → held ≡ after_tick x task (record_at a.tasks x).job (record_at b.tasks x).job hs → held ≡ holders sheet b.tasks
-      unfolding runner_named
-      holders_runner h task et held ed =
-          let who : runner sheet (after_releases sheet st) ≡ job x = sym (runner_of_lem sheet st a x ea ex) ∙ rw (lt-ltb x 16 h) refl in
-          ed
-          ∙ ap (λ (y : Task). after_tick x y (record_at a.tasks x).job (record_at b.tasks x).job hs) et
-          ∙ ap (λ (y : List TaskRecord). after_tick x (task_at sheet x) (record_at y x).job (record_at b.tasks x).job hs) records
-          ∙ ap (λ (y : List TaskRecord). after_tick x (task_at sheet x) (record_at (after_releases sheet st) x).job (record_at y x).job hs) spent
-          ∙ ap (after_tick x (task_at sheet x) (record_at (after_releases sheet st) x).job (record_at next x).job) (holders_kept hs eh ∙ ap (holders sheet) records)
-          ∙ sym (holders_ticked bytes sheet e st parts (runner sheet (after_releases sheet st)) (may_run bytes sheet e st parts) x who)
-          ∙ ap (holders sheet) (sym spent)
+    pub runner_value : x ≡ runner_of sheet st
+    unfolding runner_of
+    runner_value = sym chosen
 
--- the parts of a tick are the tick
-pub tick_parts : (sheet : Sheet) (st a b r : State) (x : ℕ) (last : LastJob)
-    → a ≡ with_tasks st (after_releases sheet st) → x ≡ runner_byte (runner sheet a.tasks) → last ≡ ran_last (runner_named x) a.tasks a.last
-    → b ≡ with_tasks a (after_runner (runner_named x) sheet a.t a.tasks) → r ≡ closed b last b.tasks → r ≡ tick sheet st
-unfolding tick runner_of closed
-tick_parts sheet st a b r x last ea ex el eb er =
-    let next = after_runner (runner sheet (after_releases sheet st)) sheet st.t (after_releases sheet st) in
-    er ∙ ap (λ (y : State). closed y last y.tasks) (ran_parts sheet st a b x ea ex eb)
-    ∙ ap (λ (j : LastJob). closed st j next) (el ∙ ap (λ (y : State). ran_last (runner_named x) y.tasks y.last) ea)
-    ∙ ap (λ (y : Runner). closed st (ran_last y (after_releases sheet st) st.last) next) (runner_of_lem sheet st a x ea ex)
+    pub runner_inside : (i : ℕ) → x ≡ Rank i → i < length sheet.tasks
+    runner_inside i z = (may_run α.ready.accepted.0 sheet α.ready.accepted.1 st (parts α.ready) i (chosen ∙ z)).rank
 
--- the end of a tick leaves the records
-pub closed_tasks : (b next : State) (last : LastJob) → next ≡ closed b last b.tasks → b.tasks ≡ next.tasks
-unfolding closed
-closed_tasks b next last e = sym (ap (λ (y : State). y.tasks) e)
+-- and after the runner
+pub record Spent (sheet : Sheet) (st a : State) (x : Runner) (b : State) : Type 0 where
+  pub released : Released sheet st a
+  pub chosen : x ≡ runner sheet a.tasks
+  pub value : b ≡ with_tasks a (after_runner x sheet a.t a.tasks)
 
--- no release before `due` is none from the next tick on
-pub quiet_on : (sheet : Sheet) (st next : State) (due : ℕ) → next ≡ tick sheet st → Quiet (st.t + 1) due sheet → Quiet next.t due sheet
-unfolding tick closed
-quiet_on sheet st next due en quiet i l k f h = let time = ap (λ (y : State). y.t) en in quiet i l k (omega arith) h
+pub spent : {sheet table : Sheet} {st a b : State} {x : Runner} → table ≡ sheet → Released sheet st a → x ≡ runner sheet a.tasks
+    → b ≡ with_tasks a (after_runner x table a.t a.tasks) → Spent sheet st a x b
+spent {a = a} {x = x} te α ex eb = record { released = α; chosen = ex; value = eb ∙ ap (λ (s : Sheet). with_tasks a (after_runner x s a.t a.tasks)) te }
 
--- one tick more
-pub after_more : (sheet : Sheet) (k : ℕ) (st next : State) → st ≡ after k sheet start → next ≡ tick sheet st → next ≡ after (k + 1) sheet start
-unfolding after
-after_more sheet k st next inv e = e ∙ ap (tick sheet) inv ∙ ap (λ (n : ℕ). after n sheet start) (sym (add-one k))
+module _ {sheet : Sheet} {st a b : State} {x : Runner} (β : Spent sheet st a x b) where
+  abbrev bytes : List ℕ
+  bytes = β.released.ready.accepted.0
 
-pub written_none : (sheet : Sheet) (buffer : List ℕ) → buffer ≡ written 0 sheet start buffer
-unfolding written trace row
-written_none sheet buffer = refl
+  abbrev rs : List TaskRecord
+  rs = after_releases sheet st
 
--- and its byte in the trace
-pub written_more : (sheet : Sheet) (k : ℕ) (buffer bytes : List ℕ) (x : ℕ) → k < length buffer → bytes ≡ written k sheet start buffer
-    → x ≡ runner_byte (runner_of sheet (after k sheet start)) → set bytes k x ≡ written (k + 1) sheet start buffer
-unfolding written trace row
-written_more sheet k buffer bytes x l inv e =
-    let byte : ℕ = runner_byte (runner_of sheet (after k sheet start)) in
-    ap (λ (b : List ℕ). set b k x) (inv ∙ ap (λ (d : List ℕ). trace k sheet start ++ d) (drop-cons buffer k 0 l))
-    ∙ set_at (trace k sheet start) (get_or buffer k 0) (drop (suc k) buffer) x k (length_row k _)
-    ∙ ap (λ (y : ℕ). trace k sheet start ++ (y ∷ drop (suc k) buffer)) e
-    ∙ sym (append_assoc (trace k sheet start) (byte ∷ []) (drop (suc k) buffer))
-    ∙ ap (λ (n : ℕ). written n sheet start buffer) (sym (add-one k))
+  abbrev next : List TaskRecord
+  next = after_runner x sheet st.t rs
 
-after_sized : (k : ℕ) (sheet : Sheet) → length (after k sheet start).tasks ≡ 16
-unfolding after tick closed after_runner
-after_sized zero sheet = refl
-after_sized (suc k) sheet = length_row 16 _
+  may : (i : ℕ) → x ≡ Rank i → MayRun sheet rs i
+  may i z = may_run bytes sheet β.released.ready.accepted.1 st (parts β.released.ready) i (chosen β.released β.chosen ∙ z)
 
--- a run that has not ended stands in a possible state below tick 60,000
-module _ (bytes : List ℕ) (sheet : Sheet) (e : read_sheet bytes ≡ read sheet) (k : ℕ) (l : k < 60000) (st : State) (inv : st ≡ after k sheet start) where
-  pub run_time : st.t < 60000
-  run_time = omega (arith, ap (λ (x : State). x.t) inv, after_time k sheet start)
+  -- of the state before the tick
+  whole : b ≡ with_tasks st (after_runner x sheet st.t (after_releases sheet st))
+  whole = β.value ∙ ap (λ (y : State). with_tasks y (after_runner x sheet y.t y.tasks)) β.released.value
 
-  pub run_possible : possible sheet st ≡ true
-  run_possible = ap (possible sheet) inv ∙ after_possible bytes sheet e k start (start_possible bytes sheet e) (omega arith)
+  pub switches_spent : b.switches < 65535
+  switches_spent = omega (arith, (parts β.released.ready).switches, β.released.ready.early, ap (λ (y : State). y.switches) whole)
 
-  pub run_sized : length st.tasks ≡ 16
-  run_sized = ap (λ (x : State). length x.tasks) inv ∙ after_sized k sheet
+  -- the holders at hand
+  pub holders_spent : {hs held : List ℕ} → hs ≡ holders sheet a.tasks → held ≡ after_runner_tick x sheet a.tasks b.tasks hs → held ≡ holders sheet b.tasks
+  holders_spent {hs = hs} eh ed =
+      ed ∙ ap₂ (λ (ys : List TaskRecord) (us : List ℕ). after_runner_tick x sheet ys b.tasks us) (records β.released) (eh ∙ ap (holders sheet) (records β.released))
+      ∙ ap (λ (ys : List TaskRecord). after_runner_tick x sheet rs ys (holders sheet rs)) (ap (λ (y : State). y.tasks) whole)
+      ∙ go x refl ∙ ap (holders sheet) (sym (ap (λ (y : State). y.tasks) whole))
+    where
+      go : (y : Runner) → x ≡ y → after_runner_tick y sheet rs next (holders sheet rs) ≡ holders sheet next
+      go (Rank i) z = sym (holders_ticked bytes sheet β.released.ready.accepted.1 st (parts β.released.ready) x may i z)
+      go Stuck z = sym (holders_still bytes sheet β.released.ready.accepted.1 st (parts β.released.ready) x may (λ i u. let c = sym z ∙ u in cc))
+      go Idle z = sym (holders_still bytes sheet β.released.ready.accepted.1 st (parts β.released.ready) x may (λ i u. let c = sym z ∙ u in cc))
+
+  sized_spent : length b.tasks ≡ 16
+  unfolding after_runner
+  sized_spent = ap (λ (y : State). length y.tasks) whole ∙ length_row 16 _
+
+  module _ {last : LastJob} {next : State} (el : last ≡ ran_last x a.tasks a.last) (er : next ≡ closed b last b.tasks) where
+    -- the parts are the tick
+    pub tick_value : next ≡ tick sheet st
+    unfolding tick runner_of closed
+    tick_value =
+        er ∙ ap (λ (y : State). closed y last y.tasks) whole
+        ∙ ap (λ (j : LastJob). closed st j (after_runner x sheet st.t rs)) (el ∙ ap (λ (y : State). ran_last x y.tasks y.last) β.released.value)
+        ∙ ap (λ (y : Runner). closed st (ran_last y rs st.last) (after_runner y sheet st.t rs)) (sym (chosen β.released β.chosen))
+
+    records_stay : next.tasks ≡ b.tasks
+    unfolding closed
+    records_stay = ap (λ (y : State). y.tasks) er
+
+    time_on : next.t ≡ st.t + 1
+    unfolding closed
+    time_on = ap (λ (y : State). y.t) er ∙ ap (λ (y : State). y.t + 1) whole
+
+    -- and the next one has at hand what this one had
+    pub hand_on : {hs held : List ℕ} {table : Sheet} {due due' : ℕ} → table ≡ sheet → hs ≡ holders sheet a.tasks → held ≡ after_runner_tick x table a.tasks b.tasks hs
+        → Quiet (st.t + 1) due table → due' ≡ due → AtHand sheet (record { state = next; holders = held; due = due' })
+    hand_on {hs = hs} te eh ed quiet e = record {
+      sized = ap length records_stay ∙ sized_spent;
+      holders_value = holders_spent eh (ed ∙ ap (λ (s : Sheet). after_runner_tick x s a.tasks b.tasks hs) te) ∙ ap (holders sheet) (sym records_stay);
+      quiet = λ i l k f h. let t = time_on in subst (Quiet (st.t + 1) _) te quiet i l k (omega arith) (omega arith);
+    }
+
+-- the holders are passed on with the runner's rank, and stay where nobody runs
+pub passed : (sheet : Sheet) (before after : List TaskRecord) (hs : List ℕ) {x : Runner} {held : List ℕ} {i rank : ℕ} {task : Task} → x ≡ Rank rank → i ≡ rank → task ≡ task_at sheet i
+    → held ≡ after_tick rank task (get_or before i blank).job (get_or after i blank).job hs → held ≡ after_runner_tick x sheet before after hs
+unfolding record_at
+passed sheet before after hs {i = i} {rank = rank} {task = task} ex ei et ed =
+    let e : after_tick rank task (get_or before i blank).job (get_or after i blank).job hs ≡ after_tick rank (task_at sheet rank) (get_or before rank blank).job (get_or after rank blank).job hs = cc in
+    ed ∙ e ∙ ap (λ (y : Runner). after_runner_tick y sheet before after hs) (sym ex)
+
+pub unmoved : (x : Runner) → ((k : ℕ) → x ≡ Rank k → ⊥) → (sheet : Sheet) (before after : List TaskRecord) (hs : List ℕ) → hs ≡ after_runner_tick x sheet before after hs
+unmoved (Rank k) n sheet before after hs = absurd (n k refl)
+unmoved Stuck n sheet before after hs = refl
+unmoved Idle n sheet before after hs = refl

@@ -1,84 +1,142 @@
 // One tick of a possible state, and a whole run from the start.
 #![tactic(auto)]
 
-ghost use Rattle.std.specs.Prelude.{◌≡◌, true, ◌<◌, ◌≤◌, length};
-ghost use Rattle.rules.specs.Words.{row};
-ghost use Rattle.rules.specs.Fields.{start};
+ghost use Rattle.std.specs.Prelude.{◌≡◌, true, ℕ, ◌+◌, ◌<◌, ◌≤◌, length};
+ghost use Rattle.rules.specs.Sheet.{Sheet};
+ghost use Rattle.rules.specs.Fields.{start, with_tasks};
 ghost use Rattle.rules.specs.Record.{possible};
-ghost use Rattle.rules.specs.Choice.{ceiling, runner_byte};
-ghost use Rattle.rules.specs.Tick.{runner_of, tick};
+ghost use Rattle.rules.specs.Tick.{after_releases, after_runner, runner_of, tick};
 ghost use Rattle.rules.specs.Run.{after, written};
-ghost use Rattle.table.specs.Table.{sheet_of, Tabled};
+ghost use Rattle.table.specs.Table.{Accepted};
+ghost use Rattle.rules.specs.declared.Runner.TheVariants.{Rank};
+ghost use Rattle.record.specs.Room.{AllBelow};
+ghost use Rattle.effect.specs.Effect.{Quiet};
+ghost use Rattle.engine.specs.AtHand.{AtHand, Ready, after_runner_tick};
 
-use rules::State;
+use holders::Plan;
+use rules::{Runner, State};
 use table::Table;
 
 // What one tick gives: who ran, and the next state.
-#[derive(Clone, Copy)]
+#[derive(Clone, Copy, PartialEq, Eq, Debug)]
 pub struct OneTick {
-    pub runner: u8,
+    pub runner: Runner,
     pub state: State,
 }
 
-// One tick: the releases, the choice of the runner, and what is done with it.
-pub fn tick_of(s: &[u8], table: Table, cs: [u8; 16], st: State) -> OneTick
-    requires tabled { Tabled s.now table }
-    requires cs_value { cs ≡ row 16 (ceiling (sheet_of s.now table)) }
-    requires st_value { possible (sheet_of s.now table) st ≡ true }
-    requires t_bound { st.t < 60000 }
-    ensures runner_value { result.runner ≡ runner_byte (runner_of (sheet_of s.now table) st) }
-    ensures state_value { result.state ≡ tick (sheet_of s.now table) st }
+// The sheet of a plan is accepted.
+fn sheet_accepted(plan: &Plan)
+    ensures { Accepted plan.now }
 {
-    let a = effect::after_releases(s, table, st);
-    let x = choice::runner_of(s, table, cs, a);
-    let last = effect::ran_last(x, a);
-    let b = effect::after_runner(s, table, x, a);
-    let next = effect::closed(last, b);
-    OneTick {
-        runner: x,
-        state: next,
+    plan.table().tasks();
+}
+
+// One tick: the releases, the choice of the runner, and what is done with it.
+pub fn tick_of(plan: &Plan, st: State) -> OneTick
+    requires st_value { possible plan.now st ≡ true }
+    requires t_bound { st.t < 60000 }
+    ensures runner_value { result.runner ≡ runner_of plan.now st }
+    ensures state_value { result.state ≡ tick plan.now st }
+{
+    sheet_accepted(plan);
+    let table = plan.table();
+    let released = effect::after_releases(table, st);
+    let runner = choice::runner_of(plan, released);
+    let last = effect::ran_last(runner, released);
+    let ran = effect::after_runner(table, runner, released);
+    let state = effect::closed(last, ran);
+    OneTick { runner, state }
+}
+
+// A run on its way. At hand it keeps the holders, and a tick before which no task has a release, so that most ticks look for
+// neither. The state changes where it stands: handed from function to function at each tick, its copies would take most of the
+// time.
+#[derive(Drop)]
+struct Run {
+    state: State,
+    holders: [u8; 16],
+    due: u32,
+}
+
+impl Run {
+    fn start() -> Run
+        ensures state_value { result.state ≡ start }
+        ensures at_hand { (sheet : Sheet) → AtHand sheet result }
+    {
+        Run {
+            state: record::start(),
+            holders: [255; 16],
+            due: 0,
+        }
+    }
+
+    // The releases of its tick, if there may be any.
+    fn release(&mut self, table: &Table)
+        requires sized { length self.old.state.tasks ≡ 16 }
+        requires all_below { AllBelow 65535 self.old.state.tasks }
+        requires quiet { Quiet self.old.state.t self.old.due table.now }
+        ensures state_value { self.new.state ≡ with_tasks self.old.state (after_releases table.now self.old.state) }
+        ensures holders_stay { self.new.holders ≡ self.old.holders }
+        ensures quiet { Quiet (self.old.state.t + 1) self.new.due table.now }
+    {
+        let t = self.state.t;
+        if self.due <= u32::from(t) {
+            self.state = effect::after_releases(table, self.state);
+            self.due = effect::quiet_until(table, t);
+        }
+    }
+
+    // The runner's tick.
+    fn spend(&mut self, table: &Table, x: Runner)
+        requires runner_bound { (i : ℕ) → x ≡ Rank i → i < length table.now.tasks }
+        requires sized { length self.old.state.tasks ≡ 16 }
+        requires all_below { AllBelow 65535 self.old.state.tasks }
+        requires t_bound { self.old.state.t < 65535 }
+        ensures state_value { self.new.state ≡ with_tasks self.old.state (after_runner x table.now self.old.state.t self.old.state.tasks) }
+        ensures holders_value { self.new.holders ≡ after_runner_tick x table.now self.old.state.tasks self.new.state.tasks self.old.holders }
+        ensures due_stays { self.new.due ≡ self.old.due }
+    {
+        if let Runner::Rank(rank) = x {
+            let i = usize::from(rank);
+            let task = table.task(i);
+            let before = self.state.tasks[i].job;
+            self.state = effect::after_runner(table, x, self.state);
+            let after = self.state.tasks[i].job;
+            let held = holders::holders_after(task, rank, before, after, self.holders);
+            self.holders = held;
+        }
+    }
+
+    // One tick.
+    fn tick(&mut self, plan: &Plan) -> Runner
+        requires ready { Ready plan.now self.old.state }
+        requires at_hand { AtHand plan.now self.old }
+        ensures runner_value { result ≡ runner_of plan.now self.old.state }
+        ensures state_value { self.new.state ≡ tick plan.now self.old.state }
+        ensures at_hand { AtHand plan.now self.new }
+    {
+        let table = plan.table();
+        self.release(table);
+        let runner = choice::runner_with(plan, self.holders, self.state);
+        let last = effect::ran_last(runner, self.state);
+        self.spend(table, runner);
+        self.state = effect::closed(last, self.state);
+        runner
     }
 }
 
 // A whole run of h ticks from the start, one runner byte per tick into the first h bytes of the trace; later bytes stay.
-// It keeps the holders at hand, and a tick before which no task has a release, so that most ticks look for neither.
-// The state changes where it stands: handed from function to function at each tick, its copies would take most of the time.
-pub fn run_of(s: &[u8], table: Table, cs: [u8; 16], h: u16, trace: &mut [u8]) -> State
-    requires tabled { Tabled s.now table }
-    requires cs_value { cs ≡ row 16 (ceiling (sheet_of s.now table)) }
+pub fn run_of(plan: &Plan, h: u16, trace: &mut [u8]) -> State
     requires h_bound { h ≤ 60000 }
     requires h_in_bounds { h ≤ length trace.old }
-    ensures value { result ≡ after h (sheet_of s.now table) start }
-    ensures trace_after { trace.new ≡ written h (sheet_of s.now table) start trace.old }
+    ensures value { result ≡ after h plan.now start }
+    ensures trace_after { trace.new ≡ written h plan.now start trace.old }
 {
-    let end = h as usize;
-    let mut st = record::start();
-    let mut hs = [255u8; 16];
-    let mut due: u32 = 0;
-    let mut k: usize = 0;
-    while k < end {
-        let t = st.t;
-        if due <= t as u32 {
-            let released = effect::after_releases(s, table, st);
-            st = released;
-            due = effect::quiet_until(s, table, t);
-        }
-        let x = choice::runner_with(s, table, cs, hs, st);
-        let last = effect::ran_last(x, st);
-        if x < 16 {
-            let i = x as usize;
-            let e = table::entry_at(table, i);
-            let before = st.tasks[i];
-            let ran = effect::after_runner(s, table, x, st);
-            st = ran;
-            let after = st.tasks[i];
-            let held = holders::holders_after(s, e, x, before.job, after.job, hs);
-            hs = held;
-        }
-        let next = effect::closed(last, st);
-        st = next;
-        trace[k] = x;
-        k += 1;
+    sheet_accepted(plan);
+    let end = usize::from(h);
+    let mut run = Run::start();
+    for byte in &mut trace[..end] {
+        *byte = u8::from(run.tick(plan));
     }
-    st
+    run.state
 }

@@ -1,46 +1,36 @@
 -- Laws of the sixteen entries: taking each rank's steps in turn finds the holders, and by its locks alone the ceilings.
-use Prim.Native.Nat.{ℕ, zero, suc, ◌+◌, ◌≤◌, ◌<◌}
-use mathlib.Core.Path.{◌≡◌, refl, sym, ap, ap₂, ◌∙◌}
-use mathlib.Core.Logic.{◌⊎◌, inl, inr, ⊎_elim}
-use mathlib.Core.List.{List, [], ◌∷◌}
-use mathlib.Core.Bool.{Bool, true, false, ◌||◌, or-false}
-use native.Mathlib.Omega.{arith}
-use native.Mathlib.Numerals.{add-one}
-use lib.ListN.{length, get_or, set, replicate, length-set, get_or-eq_default}
-use lib.Seq.{take-nil, get_or-set_same, get_or-set_other, ext_get_or}
-use borrow.Author.Tests.{lt-ltb, le-ltb, eq-eqb, ne_eqb, eqb-true, eqb-false}
-use Rattle.std.specs.Prelude.{if◌then◌else◌}
+use Rattle.std.proofs.Common.{ℕ, zero, suc, ◌+◌, ◌-◌, ◌≤◌, ◌<◌, ◌≡◌, refl, sym, ap, ap₂, ◌∙◌, ◌⊎◌, inl, inr, ⊎_elim, List, [], ◌∷◌, Bool, true, false, ◌||◌, length, get_or, set, drop, take, map, replicate, arith, add-one, if◌then◌else◌}
+use Rattle.std.proofs.lemmas.List.{get_or-set_same, get_or-set_other, length-set}
+use Rattle.std.proofs.Math.Bool.{or-false}
+use Rattle.std.proofs.Math.ListN.{get_or-eq_default}
+use Rattle.std.proofs.Math.Seq.{take-nil, drop-cons, ext_get_or}
+use borrow.Author.Tests.{eq-eqb, ne_eqb, eqb-true, eqb-false}
 use Rattle.rules.specs.Words.{◌=?◌, smallest, row, any, among}
-use Rattle.rules.specs.Sheet.{Step, run, lock, unlock, Task, Sheet, no_task, task_at, is_lock, is_lock_of, without, held_on_top, held}
+use Rattle.rules.specs.Sheet.{Step, run, lock, unlock, Task, Sheet, no_task, task_at, is_lock_of, is_lock, without, held_on_top, held}
 use Rattle.rules.specs.Fields.{blank}
 use Rattle.rules.specs.Record.{record_at, behind, carries, holds}
 use Rattle.rules.specs.Choice.{locks, ceiling}
 use Rattle.rules.specs.declared.TaskRecord.{TaskRecord}
 use Rattle.rules.proofs.Laws.{sure, below, and_no, length_row, row_at, smallest_found, smallest_there, smallest_le, smallest_none, row_same}
-use Rattle.table.specs.Table.{here, task_of, no_entry, sheet_of}
-use Rattle.table.specs.Steps.{here_is, semaphore_of}
-use Rattle.table.specs.declared.Table.{Table}
-use Rattle.table.specs.declared.Here.{Here}
-use Rattle.table.proofs.Laws.{entry_in_lem, task_at_lem, tasks_count}
+use Rattle.table.specs.Steps.{meant}
+use Rattle.table.specs.declared.Step.{Step as Table·Step}
+use Rattle.table.specs.declared.Step.TheVariants.{Run}
+use Rattle.table.proofs.Laws.{drop_past, task_read}
 use Rattle.holders.specs.Holders.{holder, holders, first_with, entry_after, after_step, after_steps, after_job, only_locks}
 
 -- sixteen entries f, of which entry s becomes another
-set_row : (s h : ℕ) (f g : ℕ → ℕ) → s < 16 → h ≡ g s → ((k : ℕ) → k < 16 → (s ≡ k → ⊥) → f k ≡ g k) → set (row 16 f) s h ≡ row 16 g
-set_row s h f g l e other = ext_get_or 0 (set (row 16 f) s h) (row 16 g) (length-set (row 16 f) s h ∙ length_row 16 f ∙ sym (length_row 16 g))
-    (λ k m. let n = length-set (row 16 f) s h in let o = length_row 16 f in ⊎_elim
-    (λ w. let z = eqb-true s k w in rw (← z) (get_or-set_same (row 16 f) s h 0 (omega arith) ∙ e ∙ sym (row_at 16 g 0 s l)))
-    (λ w. get_or-set_other (row 16 f) s k h 0 (λ z. eqb-false s k w (sym z)) ∙ row_at 16 f 0 k (omega arith)
-    ∙ other k (omega arith) (eqb-false s k w) ∙ sym (row_at 16 g 0 k (omega arith)))
+set_row : (s h : ℕ) (f g : ℕ → ℕ) → (s < 16 → h ≡ g s) → ((k : ℕ) → (s ≡ k → ⊥) → f k ≡ g k) → set (row 16 f) s h ≡ row 16 g
+set_row s h f g here other = ext_get_or 0 (set (row 16 f) s h) (row 16 g) (length-set (row 16 f) s h ∙ length_row 16 f ∙ sym (length_row 16 g))
+    (λ k m. let n = length-set (row 16 f) s h in let o = length_row 16 f in let in_row : k < 16 = omega arith in ⊎_elim
+    (λ w. let z = eqb-true s k w in rw (← z) (get_or-set_same (row 16 f) s h 0 (omega arith) ∙ here (omega arith) ∙ sym (row_at 16 g 0 s (omega arith))))
+    (λ w. get_or-set_other (row 16 f) s k h 0 (λ z. eqb-false s k w (sym z)) ∙ row_at 16 f 0 k in_row
+    ∙ other k (eqb-false s k w) ∙ sym (row_at 16 g 0 k in_row))
     (sure (s =? k)))
 
 -- by a lock or an unlock of s
-pub turn_row : (i s : ℕ) (x : Here) (f g : ℕ → ℕ) → semaphore_of x ≡ s → (s < 16 → entry_after i x (f s) ≡ g s) → ((k : ℕ) → (s ≡ k → ⊥) → f k ≡ g k)
-    → after_step i x (row 16 f) ≡ row 16 g
-unfolding after_step
-turn_row i s x f g e here other = rw e (⊎_elim
-    (λ l. rw (lt-ltb s 16 l) (set_row s _ f g l (ap (entry_after i x) (row_at 16 f 0 s l) ∙ here l) (λ k m n. other k n)))
-    (λ l. rw (le-ltb s 16 l) (row_same 16 f g (λ k m. other k (λ z. omega arith))))
-    (below s 16))
+pub turn_row : (s : ℕ) (turn : ℕ → ℕ) (f g : ℕ → ℕ) → (s < 16 → turn (f s) ≡ g s) → ((k : ℕ) → (s ≡ k → ⊥) → f k ≡ g k)
+    → set (row 16 f) s (turn (get_or (row 16 f) s 0)) ≡ row 16 g
+turn_row s turn f g here other = set_row s (turn (get_or (row 16 f) s 0)) f g (λ l. ap turn (row_at 16 f 0 s l) ∙ here l) other
 
 -- where one passes, what stands for none does not count
 smallest_either : (n d d' : ℕ) (p : ℕ → Bool) → ((i : ℕ) → i < n → p i ≡ false) ⊎ ((smallest n d p < n) × (smallest n d p ≡ smallest n d' p))
@@ -108,21 +98,21 @@ without_other s k (u ∷ own) n = go (u =? s) refl (without_other s k own n)
 -- of any relation of ranks to semaphores: rank by rank
 module _ (has : ℕ → ℕ → Bool) where
   module _ (i : ℕ) (l : i < 255) where
-    took : (s : ℕ) (own : List ℕ) → after_step i (Here.Lock s) (row 16 (first_with has i own)) ≡ row 16 (first_with has i (s ∷ own))
-    unfolding first_with among any entry_after here_is is_lock
-    took s own = turn_row i s (Here.Lock s) (first_with has i own) (first_with has i (s ∷ own)) refl
+    took : (s : ℕ) (own : List ℕ) → after_step i (lock s) (row 16 (first_with has i own)) ≡ row 16 (first_with has i (s ∷ own))
+    unfolding first_with among any entry_after after_step
+    took s own = turn_row s (entry_after i (lock s)) (first_with has i own) (first_with has i (s ∷ own))
         (λ u. take_own i (among s own) (λ j. has j s) l ∙ ap (λ (b : Bool). smallest i (if b || among s own then i else 255) (λ j. has j s)) (sym (eq-eqb s s refl)))
         (λ k n. ap (λ (b : Bool). smallest i (if b || among k own then i else 255) (λ j. has j k)) (sym (ne_eqb s k n)))
 
-    gave : (s : ℕ) (own : List ℕ) → after_step i (Here.Unlock s) (row 16 (first_with has i own)) ≡ row 16 (first_with has i (without s own))
-    unfolding first_with entry_after here_is is_lock
-    gave s own = turn_row i s (Here.Unlock s) (first_with has i own) (first_with has i (without s own)) refl
+    gave : (s : ℕ) (own : List ℕ) → after_step i (unlock s) (row 16 (first_with has i own)) ≡ row 16 (first_with has i (without s own))
+    unfolding first_with entry_after after_step
+    gave s own = turn_row s (entry_after i (unlock s)) (first_with has i own) (first_with has i (without s own))
         (λ u. give_own i (among s own) (λ j. has j s) l ∙ ap (λ (b : Bool). smallest i (if b then i else 255) (λ j. has j s)) (sym (without_same s own)))
         (λ k n. ap (λ (b : Bool). smallest i (if b then i else 255) (λ j. has j k)) (sym (without_other s k own n)))
 
     -- after its steps, rank i has what they hold
     pub stepped : (own : List ℕ) (steps : List Step) → after_steps i steps (row 16 (first_with has i own)) ≡ row 16 (first_with has i (held_on_top own steps))
-    unfolding after_steps after_step held_on_top here
+    unfolding after_steps after_step held_on_top
     stepped own [] = refl
     stepped own (run n ∷ steps) = stepped own steps
     stepped own (lock s ∷ steps) = ap (after_steps i steps) (took s own) ∙ stepped (s ∷ own) steps
@@ -162,21 +152,34 @@ module _ (sheet : Sheet) (records : List TaskRecord) where
   holds_past j k l = rw (get_or-eq_default sheet.tasks no_task {n = j} l, take-nil (record_at records j).job.position) (and_no (record_at records j).job.pending false refl)
 
 -- the loop over the ranks
-module _ (bytes : List ℕ) (table : Table) (records : List TaskRecord) (i : ℕ) (hs : List ℕ)
-    (inv : hs ≡ row 16 (first_with (holds (sheet_of bytes table) records) i [])) where
-  pub holders_more : table.n ≤ 16 → i < table.n → (more : List ℕ)
-      → more ≡ after_job i (task_of bytes (get_or table.entries i no_entry)) (get_or records i blank).job hs
-      → more ≡ row 16 (first_with (holds (sheet_of bytes table) records) (i + 1) [])
-  unfolding record_at
-  holders_more few l more e =
-      e ∙ ap₂ (λ t hs. after_job i t (get_or records i blank).job hs) (ap (task_of bytes) (entry_in_lem table i l) ∙ sym (task_at_lem bytes table i)) inv
-      ∙ job_held (sheet_of bytes table) records i (omega arith)
+module _ (sheet : Sheet) (tasks : List Task) (same : tasks ≡ sheet.tasks) (few : length tasks ≤ 16) (i : ℕ) where
+  count : length tasks ≡ length sheet.tasks
+  count = ap length same
 
-  pub holders_all : table.n ≤ 16 → i ≤ table.n → table.n ≤ i → hs ≡ holders (sheet_of bytes table) records
-  unfolding holders holder
-  holders_all few l u =
-      let n = tasks_count bytes table in
-      inv ∙ ranks_all (holds (sheet_of bytes table) records) i (omega arith) (λ j k m. holds_past (sheet_of bytes table) records j k (omega arith))
+  module _ (records : List TaskRecord) (hs : List ℕ) (inv : hs ≡ row 16 (first_with (holds sheet records) i [])) where
+    module _ (l : i < length tasks) (task : Task) (is : task ≡ get_or tasks i task) (more : List ℕ) where
+      ranked : more ≡ after_job i task (get_or records i blank).job hs → more ≡ row 16 (first_with (holds sheet records) (i + 1) [])
+      unfolding record_at
+      ranked h =
+          h ∙ ap₂ (λ (task : Task) (hs : List ℕ). after_job i task (get_or records i blank).job hs) (task_read sheet tasks same i l task is) inv ∙ job_held sheet records i (omega arith)
+
+      -- a pending job has passed the steps before its position
+      pub job_holds : (get_or records i blank).job.pending ≡ true → (passed : List ℕ)
+          → passed ≡ after_steps i (take ((get_or records i blank).job.position - 0) task.steps) hs → more ≡ passed
+          → more ≡ row 16 (first_with (holds sheet records) (i + 1) [])
+      unfolding after_job behind
+      job_holds p passed h e =
+          let j = (get_or records i blank).job in
+          let z : j.position - 0 ≡ j.position = omega arith in
+          ranked (rw p (e ∙ h ∙ ap (λ (n : ℕ). after_steps i (take n task.steps) hs) z))
+
+      pub job_rests : (get_or records i blank).job.pending ≡ false → more ≡ hs → more ≡ row 16 (first_with (holds sheet records) (i + 1) [])
+      unfolding after_job
+      job_rests p h = ranked (rw p h)
+
+    pub holders_all : length tasks ≤ i → i ≤ length tasks → hs ≡ holders sheet records
+    unfolding holders holder
+    holders_all u v = inv ∙ ranks_all (holds sheet records) i (omega arith) (λ j k m. holds_past sheet records j k (omega (arith, count)))
 
 -- the holder of a semaphore, in the row of holders
 pub holder_at : (sheet : Sheet) (records : List TaskRecord) (hs : List ℕ) → hs ≡ holders sheet records → (s : ℕ) → s < 16 → get_or hs s 0 ≡ holder sheet records s
@@ -197,26 +200,48 @@ locked k own (lock s ∷ steps) = swap (s =? k) (any (is_lock_of k) steps) (amon
     swap false false c = refl
 locked k own (unlock s ∷ steps) = locked k own steps
 
+locks_first : (i : ℕ) (x : Step) (steps : List Step) (hs : List ℕ)
+    → after_steps i (only_locks (x ∷ steps)) hs ≡ after_steps i (only_locks steps) (if is_lock x then after_step i x hs else hs)
+unfolding after_steps only_locks is_lock
+locks_first i (run n) steps hs = refl
+locks_first i (lock s) steps hs = refl
+locks_first i (unlock s) steps hs = refl
+
 -- rank j has a lock of s
 abbrev pub has_lock : Sheet → (j s : ℕ) → Bool
 has_lock sheet j s = locks (task_at sheet j) s
 
--- the loop over the ranks
-module _ (bytes : List ℕ) (table : Table) (i : ℕ) (cs : List ℕ) (inv : cs ≡ row 16 (first_with (has_lock (sheet_of bytes table)) i [])) where
-  abbrev sheet : Sheet
-  sheet = sheet_of bytes table
+-- the loops over the ranks and their steps
+module _ (sheet : Sheet) (tasks : List Task) (same : tasks ≡ sheet.tasks) (few : length tasks ≤ 16) (i : ℕ) where
+  module _ (cs : List ℕ) (inv : cs ≡ row 16 (first_with (has_lock sheet) i [])) where
+    pub ceilings_more : i < length tasks → (task : Task) → task ≡ get_or tasks i task → (steps : List Table·Step) → map meant steps ≡ task.steps
+        → after_steps i (only_locks (map meant steps)) cs ≡ row 16 (first_with (has_lock sheet) (i + 1) [])
+    unfolding locks held among any
+    ceilings_more l task is steps e =
+        let own = (task_at sheet i).steps in
+        ap₂ (λ (steps : List Step) (cs : List ℕ). after_steps i (only_locks steps) cs) (e ∙ ap (λ (t : Task). t.steps) (task_read sheet tasks same i l task is)) inv
+        ∙ stepped (has_lock sheet) i (omega arith) [] (only_locks own)
+        ∙ rank_more (has_lock sheet) i (held (only_locks own)) (λ k. sym (or-false (any (is_lock_of k) own)) ∙ locked k [] own)
 
-  pub ceilings_more : table.n ≤ 16 → i < table.n → (more : List ℕ)
-      → more ≡ after_steps i (only_locks (task_of bytes (get_or table.entries i no_entry)).steps) cs
-      → more ≡ row 16 (first_with (has_lock (sheet_of bytes table)) (i + 1) [])
-  unfolding locks held among any
-  ceilings_more few l more e =
-      let task : task_of bytes (get_or table.entries i no_entry) ≡ task_at sheet i = ap (task_of bytes) (entry_in_lem table i l) ∙ sym (task_at_lem bytes table i) in
-      e ∙ ap₂ (λ (t : Task) (cs : List ℕ). after_steps i (only_locks t.steps) cs) task inv
-      ∙ stepped (has_lock sheet) i (omega arith) [] (only_locks (task_at sheet i).steps)
-      ∙ rank_more (has_lock sheet) i (held (only_locks (task_at sheet i).steps)) (λ k. sym (or-false (any (is_lock_of k) (task_at sheet i).steps)) ∙ locked k [] (task_at sheet i).steps)
+    pub ceilings_all : length tasks ≤ i → i ≤ length tasks → cs ≡ row 16 (ceiling sheet)
+    unfolding ceiling locks task_at any
+    ceilings_all u v =
+        let n = ap length same in
+        inv ∙ ranks_all (has_lock sheet) i (omega arith) (λ j k m. ap (λ (t : Task). locks t k) (get_or-eq_default sheet.tasks no_task (omega arith)))
 
-  pub ceilings_all : table.n ≤ 16 → i ≤ table.n → table.n ≤ i → cs ≡ row 16 (ceiling (sheet_of bytes table))
-  unfolding ceiling locks task_at any
-  ceilings_all few l u =
-      inv ∙ ranks_all (has_lock sheet) i (omega arith) (λ j k m. ap (λ (t : Task). locks t k) (get_or-eq_default sheet.tasks no_task (omega (arith, tasks_count bytes table))))
+-- within a rank
+module _ (i : ℕ) (steps : List Table·Step) (p : ℕ) (cs found : List ℕ) (inv : after_steps i (only_locks (map meant (drop p steps))) cs ≡ found) where
+  module _ (l : p < length steps) (b : Bool) (e : b ≡ is_lock (meant (get_or steps p (Run 0)))) where
+    goes_on : after_steps i (only_locks (map meant (drop (p + 1) steps))) (if b then after_step i (meant (get_or steps p (Run 0))) cs else cs) ≡ found
+    goes_on = rw (e, add-one p) (sym (locks_first i (meant (get_or steps p (Run 0))) (map meant (drop (suc p) steps)) cs) ∙ rw (drop-cons steps p (Run 0) l) at inv)
+
+    pub locks_more : b ≡ true → (next : List ℕ) → next ≡ after_step i (meant (get_or steps p (Run 0))) cs → (new : List ℕ) → new ≡ next
+        → after_steps i (only_locks (map meant (drop (p + 1) steps))) new ≡ found
+    locks_more u next en new e = rw (e, en) (rw u at goes_on)
+
+    pub locks_same : b ≡ false → (new : List ℕ) → new ≡ cs → after_steps i (only_locks (map meant (drop (p + 1) steps))) new ≡ found
+    locks_same u new e = rw e (rw u at goes_on)
+
+  pub locks_all : length steps ≤ p → cs ≡ found
+  unfolding after_steps only_locks
+  locks_all l = rw (drop_past steps p l) at inv

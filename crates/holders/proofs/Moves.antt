@@ -1,22 +1,17 @@
 -- The holders from tick to tick: releases leave them, and a tick changes them by the steps that its runner passes.
-use Prim.Native.Nat.{ℕ, ◌-◌, ◌≤◌, ◌<◌}
-use mathlib.Core.Path.{◌≡◌, refl, sym, ap, ap₂, ◌∙◌}
-use mathlib.Core.Logic.{⊎_elim}
-use mathlib.Core.List.{List, [], ◌∷◌}
-use mathlib.Core.Bool.{Bool, true, false, not, ◌&&◌, ◌||◌}
-use native.Mathlib.Omega.{arith}
-use lib.ListN.{length, take, drop, replicate}
-use lib.Seq.{drop-length}
+use Rattle.std.proofs.Common.{ℕ, ◌-◌, ◌≤◌, ◌<◌, ◌≡◌, refl, sym, ap, ap₂, ◌∙◌, ⊎_elim, List, [], ◌∷◌, Bool, true, false, not, ◌&&◌, ◌||◌, length, take, drop, replicate, arith, if◌then◌else◌}
+use Rattle.std.proofs.Math.Seq.{drop-length}
 use borrow.Author.Tests.{leb-false, eq-eqb, ne_eqb, eqb-true, eqb-false, not-true}
-use Rattle.std.specs.Prelude.{if◌then◌else◌}
 use Rattle.rules.specs.Words.{◌≤?◌, ◌=?◌, some, smallest, row, any, among}
-use Rattle.rules.specs.Sheet.{Step, run, lock, unlock, Task, Sheet, Body, task_at, is_lock, is_lock_of, without, held_on_top, held}
+use Rattle.rules.specs.Sheet.{Step, run, lock, unlock, Task, Sheet, Body, task_at, is_lock_of, without, held_on_top, held}
 use Rattle.rules.specs.Reading.{read, read_sheet}
 use Rattle.rules.specs.Fields.{start}
 use Rattle.rules.specs.Record.{record_at, behind, ahead, carries, holds}
-use Rattle.rules.specs.Choice.{Runner, job, held_by_other}
+use Rattle.rules.specs.Choice.{held_by_other}
 use Rattle.rules.specs.Tick.{after_releases, next_run, behind_unlocks, advanced, after_runner}
 use Rattle.rules.specs.Laws.{MayRun}
+use Rattle.rules.specs.declared.Runner.{Runner}
+use Rattle.rules.specs.declared.Runner.TheVariants.{Rank}
 use Rattle.rules.specs.declared.Job.{Job}
 use Rattle.rules.specs.declared.TaskRecord.{TaskRecord}
 use Rattle.rules.specs.declared.State.{State}
@@ -28,9 +23,6 @@ use Rattle.rules.proofs.Nesting.{nests, nests_on}
 use Rattle.rules.proofs.Possible.{Single, Possible, stands_inside}
 use Rattle.rules.proofs.Steps.{held_passed, passed_takes}
 use Rattle.rules.proofs.Kept.{blocked_carries, released_fits, holds_released, released_single, runner_rank, next_single}
-use Rattle.table.specs.Table.{here}
-use Rattle.table.specs.Steps.{here_is}
-use Rattle.table.specs.declared.Here.{Here}
 use Rattle.holders.specs.Holders.{holder, holders, entry_after, after_step, after_steps, reached, after_tick}
 use Rattle.holders.proofs.Holders.{turn_row, without_same, without_other}
 
@@ -50,13 +42,13 @@ module _ (h : ℕ → ℕ → Bool) (i : ℕ) (rank : i < 16) where
   with_own own s = if among s own then i else others s
 
   -- a lock of what nobody else holds, an unlock of its own
-  take_entry : (s : ℕ) (c : Bool) → others s ≡ 255 → entry_after i (Here.Lock s) (if c then i else others s) ≡ i
-  unfolding entry_after here_is is_lock
+  take_entry : (s : ℕ) (c : Bool) → others s ≡ 255 → entry_after i (lock s) (if c then i else others s) ≡ i
+  unfolding entry_after
   take_entry s true z = rw (ne_eqb i 255 (λ e. omega arith)) refl
   take_entry s false z = rw z refl
 
-  give_entry : (s : ℕ) (c : Bool) → (c ≡ true → others s ≡ 255) → entry_after i (Here.Unlock s) (if c then i else others s) ≡ others s
-  unfolding entry_after here_is is_lock
+  give_entry : (s : ℕ) (c : Bool) → (c ≡ true → others s ≡ 255) → entry_after i (unlock s) (if c then i else others s) ≡ others s
+  unfolding entry_after
   give_entry s true z = rw (eq-eqb i i refl) (sym (z refl))
   give_entry s false z = rw (ne_eqb (others s) i (others_not s)) refl
 
@@ -66,18 +58,18 @@ module _ (h : ℕ → ℕ → Bool) (i : ℕ) (rank : i < 16) where
 
   own_steps : (own : List ℕ) (steps : List Step) → Apart (λ s. among s own) → Apart (λ s. any (is_lock_of s) steps)
       → after_steps i steps (row 16 (with_own own)) ≡ row 16 (with_own (held_on_top own steps))
-  unfolding after_steps after_step held_on_top here with_own among any is_lock_of
+  unfolding after_steps after_step held_on_top with_own among any is_lock_of
   own_steps own [] a b = refl
   own_steps own (run n ∷ steps) a b = own_steps own steps a b
   own_steps own (lock s ∷ steps) a b =
-      ap (after_steps i steps) (turn_row i s (Here.Lock s) (with_own own) (with_own (s ∷ own)) refl
+      ap (after_steps i steps) (turn_row s (entry_after i (lock s)) (with_own own) (with_own (s ∷ own))
       (λ l. take_entry s (among s own) (b s l (rw (eq-eqb s s refl) refl)) ∙ ap (λ (c : Bool). if c || among s own then i else others s) (sym (eq-eqb s s refl)))
       (λ k n. ap (λ (c : Bool). if c || among k own then i else others k) (sym (ne_eqb s k n))))
       ∙ own_steps (s ∷ own) steps
       (λ k l u. ⊎_elim (λ v. b k l (rw v refl)) (λ v. a k l v) (or_cases (s =? k) (among k own) u))
       (λ k l u. b k l (or_right (s =? k) (any (is_lock_of k) steps) u))
   own_steps own (unlock s ∷ steps) a b =
-      ap (after_steps i steps) (turn_row i s (Here.Unlock s) (with_own own) (with_own (without s own)) refl
+      ap (after_steps i steps) (turn_row s (entry_after i (unlock s)) (with_own own) (with_own (without s own))
       (λ l. give_entry s (among s own) (a s l) ∙ ap (λ (c : Bool). if c then i else others s) (sym (without_same s own)))
       (λ k n. ap (λ (c : Bool). if c then i else others k) (sym (without_other s k own n))))
       ∙ own_steps (without s own) steps (λ k l u. a k l (among_without k s own u)) b
@@ -179,12 +171,12 @@ module _ (bytes : List ℕ) (sheet : Sheet) (e : read_sheet bytes ≡ read sheet
   holders_released = row_same 16 _ _ (λ s l. smallest_same 16 255 _ _ (λ j m. holds_released bytes sheet e st π j s m))
 
   -- any runner that may run
-  module _ (x : Runner) (may : (i : ℕ) → x ≡ job i → MayRun sheet (after_releases sheet st) i) where
+  module _ (x : Runner) (may : (i : ℕ) → x ≡ Rank i → MayRun sheet (after_releases sheet st) i) where
     abbrev next : List TaskRecord
     next = after_runner x sheet st.t rs
 
     -- who does not run holds what it held
-    waits : (j s : ℕ) → j < 16 → (x ≡ job j → ⊥) → holds sheet next j s ≡ holds sheet rs j s
+    waits : (j s : ℕ) → j < 16 → (x ≡ Rank j → ⊥) → holds sheet next j s ≡ holds sheet rs j s
     unfolding holds
     waits j s l n = ap (λ (r : TaskRecord). carries (task_at sheet j) r.job s) (spent_at x sheet st.t rs j l)
         ∙ spent_cases (λ r. carries (task_at sheet j) r.job s ≡ carries (task_at sheet j) (record_at rs j).job s) x st.t j (task_at sheet j) (record_at rs j)
@@ -192,11 +184,11 @@ module _ (bytes : List ℕ) (sheet : Sheet) (e : read_sheet bytes ≡ read sheet
         (λ k w u p. blocked_carries (task_at sheet j) (record_at rs j).job s p)
         (λ w p. refl)
 
-    pub holders_still : ((i : ℕ) → x ≡ job i → ⊥) → holders sheet (after_runner x sheet st.t (after_releases sheet st)) ≡ holders sheet (after_releases sheet st)
+    pub holders_still : ((i : ℕ) → x ≡ Rank i → ⊥) → holders sheet (after_runner x sheet st.t (after_releases sheet st)) ≡ holders sheet (after_releases sheet st)
     unfolding holders holder
     holders_still n = row_same 16 _ _ (λ s l. smallest_same 16 255 _ _ (λ j m. waits j s m (n j)))
 
-    module _ (i : ℕ) (z : x ≡ job i) where
+    module _ (i : ℕ) (z : x ≡ Rank i) where
       abbrev task : Task
       task = task_at sheet i
 
@@ -214,11 +206,11 @@ module _ (bytes : List ℕ) (sheet : Sheet) (e : read_sheet bytes ≡ read sheet
       new_job = ap (λ (r : TaskRecord). r.job) (spent_at x sheet st.t rs i rank)
           ∙ spent_cases (λ r. r.job ≡ (advanced st.t task old).job) x st.t i task old
           (λ w. refl)
-          (λ k w u p. absurd (let same : job i ≡ job k = sym z ∙ w in let y : i ≡ k = cc in omega arith))
+          (λ k w u p. absurd (let same : Rank i ≡ Rank k = sym z ∙ w in let y : i ≡ k = cc in omega arith))
           (λ w p. absurd (w z))
 
       stays : (j s : ℕ) → j < 16 → (j ≡ i → ⊥) → holds sheet next j s ≡ holds sheet rs j s
-      stays j s l n = waits j s l (λ w. n (let same : job j ≡ job i = sym w ∙ z in cc))
+      stays j s l n = waits j s l (λ w. n (let same : Rank j ≡ Rank i = sym w ∙ z in cc))
 
       -- the position it comes to, and the steps up to there
       abbrev to : ℕ

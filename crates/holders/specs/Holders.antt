@@ -1,13 +1,10 @@
 -- Rule 2's arrays of sixteen, one entry per semaphore: the rank that holds it, or its ceiling.
 use Rattle.std.specs.Prelude.{ℕ, ◌-◌, List, [], ◌∷◌, Bool, length, get_or, take, drop, set, if◌then◌else◌}
-use Rattle.rules.specs.Words.{◌<?◌, ◌=?◌, smallest, row, among}
-use Rattle.rules.specs.Sheet.{Step, run, lock, unlock, Task, Sheet, is_lock}
+use Rattle.rules.specs.Words.{◌=?◌, smallest, row, among}
+use Rattle.rules.specs.Sheet.{Step, run, lock, unlock, Task, Sheet}
 use Rattle.rules.specs.Record.{behind, holds}
 use Rattle.rules.specs.declared.Job.{Job}
 use Rattle.rules.specs.declared.TaskRecord.{TaskRecord}
-use Rattle.table.specs.Table.{here}
-use Rattle.table.specs.Steps.{here_is, semaphore_of}
-use Rattle.table.specs.declared.Here.{Here}
 
 -- The rank that holds semaphore s, 255 if none does.
 unfoldable pub holder : Sheet → List TaskRecord → (s : ℕ) → ℕ
@@ -22,17 +19,19 @@ first_with has i own s = smallest i (if among s own then i else 255) λ j. has j
 
 -- A step of rank i: a lock takes what nobody has, an unlock gives back what is its own.
 -- So its finished sections leave what other ranks have as it is.
-unfoldable pub entry_after : (i : ℕ) → Here → (h : ℕ) → ℕ
-entry_after i x h =
-    if here_is is_lock x then (if h =? 255 then i else h) else
-    if h =? i then 255 else h
+unfoldable pub entry_after : (i : ℕ) → Step → (h : ℕ) → ℕ
+entry_after i (run n) h = h
+entry_after i (lock s) h = if h =? 255 then i else h
+entry_after i (unlock s) h = if h =? i then 255 else h
 
-unfoldable pub after_step : (i : ℕ) → Here → List ℕ → List ℕ
-after_step i x hs = if semaphore_of x <? 16 then set hs (semaphore_of x) (entry_after i x (get_or hs (semaphore_of x) 0)) else hs
+unfoldable pub after_step : (i : ℕ) → Step → List ℕ → List ℕ
+after_step i (run n) hs = hs
+after_step i (lock s) hs = set hs s (entry_after i (lock s) (get_or hs s 0))
+after_step i (unlock s) hs = set hs s (entry_after i (unlock s) (get_or hs s 0))
 
 unfoldable pub after_steps : (i : ℕ) → List Step → List ℕ → List ℕ
 after_steps i [] hs = hs
-after_steps i (x ∷ steps) hs = after_steps i steps (after_step i (here (x ∷ [])) hs)
+after_steps i (x ∷ steps) hs = after_steps i steps (after_step i x hs)
 
 -- A job of rank i: it holds something only where it is pending.
 unfoldable pub after_job : (i : ℕ) → Task → Job → List ℕ → List ℕ

@@ -1,132 +1,138 @@
-// Rule 2's arrays of sixteen, one entry per semaphore: who holds it, and its ceiling.
+// Rule 2's arrays of sixteen, one entry per semaphore: who holds it, and its ceiling. An entry stays a number, 255 for nobody, and
+// no option: document 01's `ceiling` says so, and the call `ceilings` answers it.
 #![tactic(auto)]
 
 ghost use Rattle.std.specs.Prelude.{◌≡◌, ◌-◌, take, drop};
 ghost use Rattle.rules.specs.Words.{row};
 ghost use Rattle.rules.specs.Choice.{ceiling};
-ghost use Rattle.table.specs.Table.{task_of, sheet_of, Lies, Tabled};
-ghost use Rattle.holders.specs.Holders.{holders, entry_after, after_step, after_steps, after_job, after_tick, only_locks};
+ghost use Rattle.rules.specs.Laws.{StepLimits};
+ghost use Rattle.table.specs.Steps.{meant};
+ghost use Rattle.holders.specs.Holders.{holders, after_step, after_steps, after_tick};
 
 use rules::{Job, State};
-use table::{Entry, Here, Kind, Table, is_of, semaphore_of, step_at};
+use std::marker::Model;
+use table::{Step, Table, Task};
 
-// The entry of a semaphore after its lock or unlock by rank i.
-fn entry_after(i: u8, x: Here, h: u8) -> u8
-    ensures { result ≡ entry_after i x h }
+// A step of rank i: a lock takes what nobody has, an unlock gives back what is its own.
+#[tactic(auto, using(crate::proofs::Steps::step_by))]
+fn pass_step(x: Step, i: u8, hs: &mut [u8; 16])
+    requires { StepLimits 16 (meant x) }
+    ensures { hs.new ≡ after_step i (meant x) hs.old }
 {
-    if is_of(x, Kind::Lock) {
-        return if h == 255 { i } else { h };
+    match x {
+        Step::Run(_) => {}
+        Step::Lock(s) => {
+            if hs[s as usize] == 255 {
+                hs[s as usize] = i;
+            }
+        }
+        Step::Unlock(s) => {
+            if hs[s as usize] == i {
+                hs[s as usize] = 255;
+            }
+        }
     }
-    if h == i { 255 } else { h }
 }
 
-// The entries after a step of rank i.
-fn after_step(i: u8, x: Here, hs: [u8; 16]) -> [u8; 16]
-    ensures { result ≡ after_step i x hs }
+// The steps of rank i from one position to another.
+fn pass(task: &Task, from: usize, to: usize, i: u8, hs: &mut [u8; 16])
+    ensures { hs.new ≡ after_steps i (take (to - from) (drop from task.now.steps)) hs.old }
 {
-    let k = semaphore_of(x);
-    if 16 <= k {
-        return hs;
+    let steps = task.steps();
+    let end = to.min(steps.len());
+    for x in &steps[from.min(end)..end] {
+        pass_step(*x, i, hs);
     }
-    let mut out = hs;
-    let h = hs[k];
-    out[k] = entry_after(i, x, h);
-    out
 }
 
-// The holders after the steps of rank i from one position to another.
-pub fn after_steps(s: &[u8], e: Entry, from: usize, to: usize, i: u8, hs: [u8; 16]) -> [u8; 16]
-    requires { Lies s.now e }
-    ensures { result ≡ after_steps i (take (to - from) (drop from (task_of s.now e).steps)) hs }
+// The same, of the entries by value.
+pub fn after_steps(task: &Task, from: usize, to: usize, i: u8, mut hs: [u8; 16]) -> [u8; 16]
+    ensures { result ≡ after_steps i (take (to - from) (drop from task.now.steps)) hs }
 {
-    let mut out = hs;
-    let mut p = from;
-    while p < to {
-        let x = step_at(s, e, p);
-        let next = after_step(i, x, out);
-        out = next;
-        p += 1;
-    }
-    out
-}
-
-// The holders, with what a job of rank i holds.
-fn after_job(s: &[u8], e: Entry, j: Job, i: u8, hs: [u8; 16]) -> [u8; 16]
-    requires { Lies s.now e }
-    ensures { result ≡ after_job i (task_of s.now e) j hs }
-{
-    if j.pending {
-        let position = j.position as usize;
-        return after_steps(s, e, 0, position, i, hs);
-    }
+    pass(task, from, to, i, &mut hs);
     hs
 }
 
 // The holder of each semaphore, 255 if none.
-pub fn holders_of(s: &[u8], table: Table, st: State) -> [u8; 16]
-    requires { Tabled s.now table }
-    ensures { result ≡ holders (sheet_of s.now table) st.tasks }
+pub fn holders_of(table: &Table, st: State) -> [u8; 16]
+    ensures { result ≡ holders table.now st.tasks }
 {
-    let n = table.n as usize;
-    let mut hs = [255u8; 16];
-    let mut i: usize = 0;
-    while i < n {
-        let e = table.entries[i];
-        let r = st.tasks[i];
-        let j = r.job;
-        let more = after_job(s, e, j, i as u8, hs);
-        hs = more;
-        i += 1;
+    let mut hs = [255; 16];
+    for (i, task) in table.tasks().iter().enumerate() {
+        let j = st.tasks[i].job;
+        if j.pending {
+            pass(task, 0, j.position as usize, i as u8, &mut hs);
+        }
     }
     hs
 }
 
 // The holders after the tick of a runner of rank i, from those before it and its job before and after.
-pub fn holders_after(s: &[u8], e: Entry, i: u8, before: Job, after: Job, hs: [u8; 16]) -> [u8; 16]
-    requires { Lies s.now e }
-    ensures { result ≡ after_tick i (task_of s.now e) before after hs }
+#[tactic(auto, unfolding(crate::specs::Holders::after_tick, crate::specs::Holders::reached))]
+pub fn holders_after(task: &Task, i: u8, before: Job, after: Job, hs: [u8; 16]) -> [u8; 16]
+    ensures { result ≡ after_tick i task.now before after hs }
 {
-    let from = before.position as usize;
-    if after.pending {
-        let to = after.position as usize;
-        return after_steps(s, e, from, to, i, hs);
-    }
-    let end = e.count as usize;
-    after_steps(s, e, from, end, i, hs)
-}
-
-// The ceilings with the locks of a task of rank i: each takes what no rank before has.
-fn after_locks(s: &[u8], e: Entry, i: u8, cs: [u8; 16]) -> [u8; 16]
-    requires { Lies s.now e }
-    ensures { result ≡ after_steps i (only_locks (task_of s.now e).steps) cs }
-{
-    let count = e.count as usize;
-    let mut out = cs;
-    let mut p: usize = 0;
-    while p < count {
-        let x = step_at(s, e, p);
-        if is_of(x, Kind::Lock) {
-            let next = after_step(i, x, out);
-            out = next;
-        }
-        p += 1;
-    }
-    out
+    let to = if after.pending {
+        after.position as usize
+    } else {
+        task.count()
+    };
+    after_steps(task, before.position as usize, to, i, hs)
 }
 
 // The ceiling of each semaphore: the smallest rank that has a lock of it; 255 if none.
-pub fn ceilings_of(s: &[u8], table: Table) -> [u8; 16]
-    requires { Tabled s.now table }
-    ensures { result ≡ row 16 (ceiling (sheet_of s.now table)) }
+pub fn ceilings_of(table: &Table) -> [u8; 16]
+    ensures { result ≡ row 16 (ceiling table.now) }
 {
-    let n = table.n as usize;
-    let mut cs = [255u8; 16];
-    let mut i: usize = 0;
-    while i < n {
-        let e = table.entries[i];
-        let more = after_locks(s, e, i as u8, cs);
-        cs = more;
-        i += 1;
+    let mut cs = [255; 16];
+    for (i, task) in table.tasks().iter().enumerate() {
+        for x in task.steps() {
+            // a lock takes what no smaller rank has
+            if x.is_lock() {
+                pass_step(*x, i as u8, &mut cs);
+            }
+        }
     }
     cs
+}
+
+// A table with its ceilings.
+#[derive(Drop)]
+pub struct Plan {
+    table: Table,
+    ceilings: [u8; 16],
+}
+
+impl Model for Plan {
+    ghost use Rattle.std.specs.Prelude.{◌≡◌};
+    ghost use Rattle.rules.specs.Sheet.{Sheet};
+    ghost use Rattle.rules.specs.Words.{row};
+    ghost use Rattle.rules.specs.Choice.{ceiling};
+
+    ghost Value = { Sheet };
+
+    ghost view = { λ p. p.table };
+
+    ghost invariant = { λ p. p.ceilings ≡ row 16 (ceiling p.table) };
+}
+
+impl Plan {
+    pub fn new(table: Table) -> Plan
+        ensures { result ≡ table }
+    {
+        let ceilings = ceilings_of(&table);
+        Plan { table, ceilings }
+    }
+
+    pub fn table(&self) -> &Table
+        ensures { result.now ≡ self.now }
+    {
+        &self.table
+    }
+
+    pub fn ceilings(&self) -> [u8; 16]
+        ensures { result ≡ row 16 (ceiling self.now) }
+    {
+        self.ceilings
+    }
 }

@@ -4,39 +4,25 @@
 // zero. workbench/README.md has the format, and what is printed.
 #![tactic(auto)]
 
-use rules::{State, Ticked, Told};
+use rules::{AfterTick, Refusal, Runner, State};
+use wire::{Bytes, Shown, TAKEN, answer_of};
 
-fn in_place(sheet: &[u8], mut st: State) -> Ticked {
-    let told = simulator::tick_in_place(sheet, &mut st);
-    Ticked {
-        told: told,
-        state: st,
-    }
-}
-
-fn print_ticked(rt: &impl Print, a: Ticked) {
-    let told = a.told;
-    let refusal = told.refusal;
-    let next = a.state;
-    wire::print_refusal(rt, refusal);
-    wire::print(rt, b"runner ", told.runner as u64);
-    wire::end_line(rt);
-    wire::print_state(rt, next);
-}
-
-fn answer(rt: &impl Print, sheet: &[u8], st: State) {
-    print_ticked(rt, simulator::tick(sheet, st));
-    wire::write(rt, b"in place\n");
-    print_ticked(rt, in_place(sheet, st));
+fn print_told(rt: &impl Print, told: Result<Runner, Refusal>, st: &State) {
+    let runner = answer_of(rt, told.map(u8::from));
+    let state = Shown(st);
+    let _ = print!(rt; "runner {runner}\n{state}");
 }
 
 fn main(rt: HostRuntime) {
-    let mut buffer = wire::input_buffer();
-    let n = input::read_full(&mut rt.stdin(), &mut buffer);
-    let input = &buffer[..n];
-    let length = wire::word_at(input, 0) as usize;
-    let st = wire::state_at(input, 2 + length);
-    let from = wire::behind(input, 0, 2);
-    let end = wire::behind(input, from, length);
-    answer(&rt, &input[from..end], st);
+    let mut space = [0; TAKEN];
+    let mut input = Bytes::new(input::read_full(&mut rt.stdin(), &mut space));
+    let length = input.word();
+    let sheet = input.take(length);
+    let mut st = input.state();
+
+    let AfterTick { told, state } = simulator::tick(sheet, st);
+    print_told(&rt, told, &state);
+    let _ = println!(rt; "in place");
+    let told = simulator::tick_in_place(sheet, &mut st);
+    print_told(&rt, told, &st);
 }

@@ -1,13 +1,6 @@
--- Laws of what is held: no semaphore is held by two where each job is the holder of all that it holds.
-use Prim.Native.Nat.{ℕ, ◌+◌, ◌-◌, ◌≤◌, ◌<◌}
-use mathlib.Core.Path.{◌≡◌, refl, sym, ap, ◌∙◌}
-use mathlib.Core.Logic.{⊎_elim}
-use mathlib.Core.List.{List, []}
-use mathlib.Core.Bool.{Bool, true, false, not, ◌&&◌}
-use native.Mathlib.Omega.{arith}
-use lib.ListN.{length, get_or, take, replicate}
+-- Laws of what is held: by one job alone, against the holders, and none by two.
+use Rattle.std.proofs.Common.{ℕ, ◌+◌, ◌-◌, ◌≤◌, ◌<◌, ◌≡◌, refl, sym, ap, ◌∙◌, ⊎_elim, List, [], Bool, true, false, not, ◌&&◌, length, get_or, take, replicate, arith, if◌then◌else◌}
 use borrow.Author.Tests.{eq-eqb, ne_eqb, eqb-true, eqb-false, not-true, not-false}
-use Rattle.std.specs.Prelude.{if◌then◌else◌}
 use Rattle.rules.specs.Words.{◌=?◌, ◌⇒◌, row, any, among}
 use Rattle.rules.specs.Sheet.{Step, Task, Sheet, task_at, held}
 use Rattle.rules.specs.Fields.{blank}
@@ -15,37 +8,10 @@ use Rattle.rules.specs.Record.{record_at, behind, carries, holds, none_held_by_t
 use Rattle.rules.specs.declared.Job.{Job}
 use Rattle.rules.specs.declared.TaskRecord.{TaskRecord}
 use Rattle.rules.proofs.Laws.{sure, below, and_at, true_false, and_left, and_right, and_both, implied, implies_no, implies_yes, denied, every_same, every_at, every_of, not_every, every_no, row_at, smallest_le, smallest_there, smallest_none, row_same}
-use Rattle.table.specs.Table.{task_of, no_entry, sheet_of}
-use Rattle.table.specs.declared.Table.{Table}
-use Rattle.table.proofs.Laws.{entry_in_lem, task_at_lem, tasks_count}
+use Rattle.table.proofs.Laws.{task_read}
 use Rattle.holders.specs.Holders.{holder, holders, first_with, after_steps}
 use Rattle.holders.proofs.Holders.{stepped, holds_past, holder_at}
 use Rattle.possible.specs.Holding.{same_holder, same_holders, holds_alone}
-
--- one semaphore in two rows of holders
-module _ (own h : ℕ) where
-  pub holder_none : own ≡ 255 → true ≡ same_holder own h
-  unfolding same_holder
-  holder_none e = rw (eq-eqb own 255 e) refl
-
-  pub holder_one : (own ≡ 255 → ⊥) → (h =? own) ≡ same_holder own h
-  unfolding same_holder
-  holder_one n = rw (ne_eqb own 255 n) refl
-
--- all of them, found by looking from 0 on
-module _ (own hs : List ℕ) (k : ℕ) where
-  module _ (b : Bool) (e : b ≡ same_holder (get_or own k 0) (get_or hs k 0)) where
-    pub holder_off : k < 16 → not b ≡ true → false ≡ same_holders own hs
-    unfolding same_holders
-    holder_off l h = sym (every_no 16 (λ s. same_holder (get_or own s 0) (get_or hs s 0)) k l (sym e ∙ not-true b h))
-
-    pub holder_more : not b ≡ false → ((s : ℕ) → s < k → same_holder (get_or own s 0) (get_or hs s 0) ≡ true)
-        → (s : ℕ) → s < k + 1 → same_holder (get_or own s 0) (get_or hs s 0) ≡ true
-    holder_more h inv s m = and_at (λ s. same_holder (get_or own s 0) (get_or hs s 0) ≡ true) k inv (sym e ∙ not-false b h) s (omega arith)
-
-  pub holders_all : 16 ≤ k → ((s : ℕ) → s < k → same_holder (get_or own s 0) (get_or hs s 0) ≡ true) → true ≡ same_holders own hs
-  unfolding same_holders
-  holders_all l inv = sym (every_of 16 _ (λ s m. inv s (omega arith)))
 
 -- where no other rank has anything, the steps of rank i hold what they have locked and not unlocked
 alone : (i : ℕ) (own : List ℕ) (s : ℕ) → ℕ
@@ -67,9 +33,9 @@ module _ (i : ℕ) (l : i < 255) where
 
 -- a job of rank i
 module _ (i : ℕ) (task : Task) (j : Job) (hs : List ℕ) where
-  pub rests_alone : not j.pending ≡ true → true ≡ holds_alone i task j hs
+  pub rests_alone : not j.pending ≡ true → not j.pending ≡ holds_alone i task j hs
   unfolding holds_alone carries
-  rests_alone h = sym (every_of 16 _ (λ s m. rw (not-true j.pending h) refl))
+  rests_alone h = h ∙ sym (every_of 16 _ (λ s m. rw (not-true j.pending h) refl))
 
   pub stands_alone : not j.pending ≡ false → i < 255 → (own : List ℕ) → own ≡ after_steps i (take (j.position - 0) task.steps) (replicate 16 255)
       → (b : Bool) → b ≡ same_holders own hs → b ≡ holds_alone i task j hs
@@ -118,20 +84,19 @@ module _ (sheet : Sheet) (records : List TaskRecord) (hs : List ℕ) (eh : hs �
           (below i (length sheet.tasks))
 
 -- the loop over the ranks
-module _ (bytes : List ℕ) (table : Table) (records : List TaskRecord) (hs : List ℕ) (eh : hs ≡ holders (sheet_of bytes table) records) (i : ℕ) where
-  module _ (few : table.n ≤ 16) (l : i < table.n) (b : Bool)
-      (eb : b ≡ holds_alone i (task_of bytes (get_or table.entries i no_entry)) (get_or records i blank).job hs) where
-    by_rank_lem : b ≡ holds_alone i (task_at (sheet_of bytes table) i) (record_at records i).job hs
+module _ (sheet : Sheet) (records : List TaskRecord) (hs : List ℕ) (eh : hs ≡ holders sheet records)
+    (tasks : List Task) (same : tasks ≡ sheet.tasks) (few : length tasks ≤ 16) (i : ℕ) where
+  module _ (l : i < length tasks) (task : Task) (is : task ≡ get_or tasks i task) (b : Bool) (eb : b ≡ holds_alone i task (get_or records i blank).job hs) where
+    by_rank_lem : b ≡ holds_alone i (task_at sheet i) (record_at records i).job hs
     unfolding record_at
-    by_rank_lem = eb ∙ ap (λ (task : Task). holds_alone i task (get_or records i blank).job hs) (ap (task_of bytes) (entry_in_lem table i l) ∙ sym (task_at_lem bytes table i))
+    by_rank_lem = eb ∙ ap (λ (task : Task). holds_alone i task (get_or records i blank).job hs) (task_read sheet tasks same i l task is)
 
-    pub rank_off : not b ≡ true → false ≡ none_held_by_two (sheet_of bytes table) records
-    rank_off h = not_alone (sheet_of bytes table) records hs eh i (omega arith) (sym by_rank_lem ∙ not-true b h)
+    pub rank_off : not b ≡ true → false ≡ none_held_by_two sheet records
+    rank_off h = not_alone sheet records hs eh i (omega arith) (sym by_rank_lem ∙ not-true b h)
 
-    pub rank_more : not b ≡ false → ((k : ℕ) → k < i → holds_alone k (task_at (sheet_of bytes table) k) (record_at records k).job hs ≡ true)
-        → (k : ℕ) → k < i + 1 → holds_alone k (task_at (sheet_of bytes table) k) (record_at records k).job hs ≡ true
-    rank_more h inv k m = and_at (λ k. holds_alone k (task_at (sheet_of bytes table) k) (record_at records k).job hs ≡ true) i inv (sym by_rank_lem ∙ not-false b h) k (omega arith)
+    pub rank_more : not b ≡ false → ((k : ℕ) → k < i → holds_alone k (task_at sheet k) (record_at records k).job hs ≡ true)
+        → (k : ℕ) → k < i + 1 → holds_alone k (task_at sheet k) (record_at records k).job hs ≡ true
+    rank_more h inv k m = and_at (λ k. holds_alone k (task_at sheet k) (record_at records k).job hs ≡ true) i inv (sym by_rank_lem ∙ not-false b h) k (omega arith)
 
-  pub ranks_all : table.n ≤ i → ((k : ℕ) → k < i → holds_alone k (task_at (sheet_of bytes table) k) (record_at records k).job hs ≡ true)
-      → true ≡ none_held_by_two (sheet_of bytes table) records
-  ranks_all l inv = all_alone (sheet_of bytes table) records hs eh (λ k m. inv k (omega (arith, tasks_count bytes table)))
+  pub ranks_all : length tasks ≤ i → ((k : ℕ) → k < i → holds_alone k (task_at sheet k) (record_at records k).job hs ≡ true) → true ≡ none_held_by_two sheet records
+  ranks_all l inv = all_alone sheet records hs eh (λ k m. inv k (omega (arith, ap length same)))

@@ -1,7 +1,8 @@
 -- Room to count on.
 use Rattle.std.specs.Prelude.{ℕ, ◌<◌, List}
-use Rattle.rules.specs.Fields.{Count, count}
+use Rattle.rules.specs.Fields.{count}
 use Rattle.rules.specs.Record.{record_at}
+use Rattle.rules.specs.declared.Count.{Count}
 use Rattle.rules.specs.declared.Counts.{Counts}
 use Rattle.rules.specs.declared.TaskRecord.{TaskRecord}
 

@@ -1,79 +1,23 @@
-// The record's fields in code, as rules/specs/Fields.antt lists them: the makers, the counts as a row, the tests that look at
+// The record's fields in code, as rules/specs/Fields.antt lists them: the makers, the counts that rise, the tests that look at
 // every field. The other crates name a field only where a rule is about it.
 #![tactic(auto)]
 
-ghost use Rattle.std.specs.Prelude.{◌≡◌, ◌<◌, max, get_or};
-ghost use Rattle.rules.specs.Fields.{Releases, Misses, TicksRun, TicksBlocked, MostBlocked, place_of, counts, counted, with_count, up, standing, moved_to, held_up, no_job, place, blank, zeros, zero_record, last_job, none_yet, same_job, no_state, start};
+ghost use Rattle.std.specs.Prelude.{◌≡◌, ◌<◌};
+ghost use Rattle.rules.specs.Fields.{count, up, standing, moved_to, no_job, place, zeros, zero_record, last_job, none_yet, same_job, no_state, start};
 ghost use Rattle.rules.specs.Record.{counts_fit};
 ghost use Rattle.rules.specs.Tick.{completed, was_blocked};
 
-use rules::{Counts, Job, LastJob, State, TaskRecord};
-
-// The counts as a row,
-pub fn counted(c: Counts) -> [u16; 7]
-    ensures { result ≡ counted c }
-{
-    [
-        c.releases,
-        c.completions,
-        c.misses,
-        c.ran,
-        c.blocked,
-        c.worst,
-        c.most,
-    ]
-}
-
-// and counts from their row.
-pub fn counts_of(row: [u16; 7]) -> Counts
-    ensures { result ≡ counts (λ k. get_or row (place_of k) 0) }
-{
-    Counts {
-        releases: row[0],
-        completions: row[1],
-        misses: row[2],
-        ran: row[3],
-        blocked: row[4],
-        worst: row[5],
-        most: row[6],
-    }
-}
+use rules::{Count, Counts, Job, LastJob, State, TaskRecord};
 
 // Counts of which one has risen by one.
-pub fn releases_up(c: Counts) -> Counts
-    requires { c.releases < 65535 }
-    ensures { result ≡ up Releases c }
+#[tactic(auto, using(rules::proofs::Fields::counted_at, crate::proofs::Laws::risen))]
+pub fn up(k: Count, c: Counts) -> Counts
+    requires { count k c < 65535 }
+    ensures { result ≡ up k c }
 {
-    let mut d = c;
-    d.releases = c.releases + 1;
-    d
-}
-
-pub fn misses_up(c: Counts) -> Counts
-    requires { c.misses < 65535 }
-    ensures { result ≡ up Misses c }
-{
-    let mut d = c;
-    d.misses = c.misses + 1;
-    d
-}
-
-pub fn ran_up(c: Counts) -> Counts
-    requires { c.ran < 65535 }
-    ensures { result ≡ up TicksRun c }
-{
-    let mut d = c;
-    d.ran = c.ran + 1;
-    d
-}
-
-fn larger(a: u16, b: u16) -> u16
-    ensures { result ≡ max a b }
-{
-    if a < b {
-        return b;
-    }
-    a
+    let mut row = <[u16; 7]>::from(c);
+    row[usize::from(k)] += 1;
+    Counts::from(row)
 }
 
 // The counts of a job that completes.
@@ -81,86 +25,65 @@ pub fn completed(response: u16, c: Counts) -> Counts
     requires { c.completions < 65535 }
     ensures { result ≡ completed response c }
 {
-    let mut d = c;
-    d.completions = c.completions + 1;
-    d.worst = larger(c.worst, response);
-    d
+    Counts {
+        completions: c.completions + 1,
+        worst: c.worst.max(response),
+        ..c
+    }
 }
 
-// A job that stands at a step, one that moves on, one that is blocked for a tick, and none.
+// A job that stands at a step, one that moves on, and none.
 pub fn standing(position: u8, left: u16, release: u16, present: u16) -> Job
     ensures { result ≡ standing position left release present }
 {
     Job {
         pending: true,
-        position: position,
-        left: left,
-        release: release,
-        present: present,
+        position,
+        left,
+        release,
+        present,
     }
 }
 
 pub fn moved_to(position: u8, left: u16, j: Job) -> Job
     ensures { result ≡ moved_to position left j }
 {
-    let mut k = j;
-    k.pending = true;
-    k.position = position;
-    k.left = left;
-    k
-}
-
-fn held_up(j: Job) -> Job
-    requires { j.present < 65535 }
-    ensures { result ≡ held_up j }
-{
-    let mut k = j;
-    k.pending = true;
-    k.present = j.present + 1;
-    k
+    standing(position, left, j.release, j.present)
 }
 
 pub fn no_job() -> Job
     ensures { result ≡ no_job }
 {
-    Job {
-        pending: false,
-        position: 0,
-        left: 0,
-        release: 0,
-        present: 0,
-    }
+    Job::default()
 }
 
-// The counts of a job that is blocked for a tick, with its ticks blocked; and its record.
-fn blocked_up(c: Counts, present: u16) -> Counts
-    requires { c.blocked < 65535 }
-    ensures { result ≡ with_count MostBlocked (max c.most present) (up TicksBlocked c) }
-{
-    let mut d = c;
-    d.blocked = c.blocked + 1;
-    d.most = larger(c.most, present);
-    d
-}
-
+// The record of a job that is blocked for a tick: its ticks blocked rise, and the counts with them.
 pub fn was_blocked(x: TaskRecord) -> TaskRecord
     requires blocked_bound { x.counts.blocked < 65535 }
     requires present_bound { x.job.present < 65535 }
     ensures { result ≡ was_blocked x }
 {
-    let j = held_up(x.job);
-    let c = blocked_up(x.counts, j.present);
-    TaskRecord { job: j, counts: c }
+    let present = x.job.present + 1;
+    TaskRecord {
+        job: Job {
+            pending: true,
+            present,
+            ..x.job
+        },
+        counts: Counts {
+            blocked: x.counts.blocked + 1,
+            most: x.counts.most.max(present),
+            ..x.counts
+        },
+    }
 }
 
-// The job that ran last, by rank and release tick; none has run; the same job.
+// The job that ran last, by rank and release tick; none has run, which is a pair of numbers that a record may hold like any other
+// (document 02, W3: 255 and 0), and so no Option; the same job.
 pub fn last_job(rank: u8, release: u16) -> LastJob
     ensures { result ≡ last_job rank release }
 {
-    LastJob {
-        rank: rank,
-        release: release,
-    }
+    LastJob { rank, release }
 }
 
 pub fn none_yet() -> LastJob
@@ -169,87 +92,51 @@ pub fn none_yet() -> LastJob
     last_job(255, 0)
 }
 
+#[tactic(auto, unfolding(rules::specs::Fields::same_job))]
 pub fn same_job(a: LastJob, b: LastJob) -> bool
     ensures { result ≡ same_job a b }
 {
-    if a.rank != b.rank {
-        return false;
-    }
-    a.release == b.release
+    a == b
 }
 
-// A task's record that is zero, a run's, and the start.
-pub fn blank() -> TaskRecord
-    ensures { result ≡ blank }
-{
-    let j = no_job();
-    let c = counts_of([0; 7]);
-    TaskRecord { job: j, counts: c }
-}
-
+// A run's record that is zero, and the start.
 pub fn no_state() -> State
     ensures { result ≡ no_state }
 {
-    let z = blank();
-    let zero = last_job(0, 0);
-    State {
-        t: 0,
-        switches: 0,
-        last: zero,
-        tasks: [z; 16],
-    }
+    State::default()
 }
 
 pub fn start() -> State
     ensures { result ≡ start }
 {
-    let mut st = no_state();
-    st.last = none_yet();
-    st
+    State {
+        last: none_yet(),
+        ..no_state()
+    }
 }
 
 // every count and worst response is at most t;
 pub fn counts_fit(t: u16, c: Counts) -> bool
     ensures { result ≡ counts_fit t c }
 {
-    let row = counted(c);
-    let mut k: usize = 0;
-    while k < 7 {
-        if t < row[k] {
-            return false;
-        }
-        k += 1;
-    }
-    true
+    <[u16; 7]>::from(c).iter().all(|&x| x <= t)
 }
 
 // position, left, release tick and ticks blocked zero;
+#[tactic(auto, unfolding(rules::specs::Fields::zeros, rules::specs::Fields::place, rules::specs::Words::all))]
 pub fn zero_place(j: Job) -> bool
     ensures { result ≡ zeros (place j) }
 {
-    if j.position != 0 {
-        return false;
-    }
-    if j.left != 0 {
-        return false;
-    }
-    if j.release != 0 {
-        return false;
-    }
-    j.present == 0
+    Job {
+        pending: false,
+        ..j
+    } == Job::default()
 }
 
 // records at n and above are zero;
+#[tactic(auto, unfolding(rules::specs::Fields::zero_record, rules::specs::Fields::zeros, rules::specs::Fields::place, rules::specs::Fields::counted, rules::specs::Words::all))]
 pub fn zero_record(x: TaskRecord) -> bool
     ensures { result ≡ zero_record x }
 {
-    let j = x.job;
-    if j.pending {
-        return false;
-    }
-    if !zero_place(j) {
-        return false;
-    }
-    // a count that is at most 0 is zero
-    counts_fit(0, x.counts)
+    x == TaskRecord::default()
 }

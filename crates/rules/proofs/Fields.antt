@@ -8,8 +8,10 @@ use lib.ListN.{length, get_or}
 use borrow.Author.Tests.{leb-true, eqb-true, le-leb}
 use Rattle.std.specs.Prelude.{if◌then◌else◌}
 use Rattle.rules.specs.Words.{◌≤?◌, ◌=?◌, all}
-use Rattle.rules.specs.Fields.{Count, Releases, Completions, Misses, TicksRun, TicksBlocked, WorstResponse, MostBlocked, every_count, place_of, count, counts, counted, with_count, no_counts, zeros}
+use Rattle.rules.specs.Fields.{every_count, place_of, count, counts, counted, with_count, no_counts, zeros}
 use Rattle.rules.specs.Record.{counts_fit}
+use Rattle.rules.specs.declared.Count.{Count}
+use Rattle.rules.specs.declared.Count.TheVariants.{Releases, Completions, Misses, TicksRun, TicksBlocked, WorstResponse, MostBlocked}
 use Rattle.rules.specs.declared.Counts.{Counts}
 use Rattle.rules.proofs.Laws.{and_left, and_right, and_both, if_cases}
 

@@ -11,19 +11,23 @@ use Rattle.std.specs.Prelude.{if◌then◌else◌}
 use Rattle.rules.specs.Words.{◌=?◌, any, among}
 use Rattle.rules.specs.Sheet.{Task, Sheet, task_at, held_on_top, held}
 use Rattle.rules.specs.Reading.{read, read_sheet}
-use Rattle.rules.specs.Fields.{Count, Releases, Completions, Misses, TicksRun, TicksBlocked, WorstResponse, MostBlocked, count, up, held_up, no_job, blank, same_job, start}
+use Rattle.rules.specs.Fields.{count, up, held_up, no_job, blank, same_job, start}
 use Rattle.rules.specs.Record.{record_at, behind, ahead, carries, holds, possible}
-use Rattle.rules.specs.Choice.{Runner, job, stuck, idle, held_by_other, runner}
+use Rattle.rules.specs.Choice.{held_by_other, runner}
+use Rattle.rules.specs.declared.Runner.{Runner}
+use Rattle.rules.specs.declared.Runner.TheVariants.{Rank, Stuck, Idle}
 use Rattle.rules.specs.Tick.{released, after_releases, completed, advanced, spent, after_runner, ran_last, closed, runner_of, tick}
 use Rattle.rules.specs.Run.{after}
 use Rattle.rules.specs.Laws.{TaskLimits, takes, MayRun, RunnerMayRun, StartPossible, TickPossible}
+use Rattle.rules.specs.declared.Count.{Count}
+use Rattle.rules.specs.declared.Count.TheVariants.{Releases, Completions, Misses, TicksRun, TicksBlocked, WorstResponse, MostBlocked}
 use Rattle.rules.specs.declared.Job.{Job}
 use Rattle.rules.specs.declared.Counts.{Counts}
 use Rattle.rules.specs.declared.TaskRecord.{TaskRecord}
 use Rattle.rules.specs.declared.State.{State}
 use Rattle.rules.proofs.Laws.{sure, below, true_false, if_cases, some_of}
 use Rattle.rules.proofs.Limits.{accepted_within_limits}
-use Rattle.rules.proofs.Runner.{runner_may}
+use Rattle.rules.proofs.MayRun.{runner_may}
 use Rattle.rules.proofs.Tick.{released_cases, advanced_cases, spent_cases, released_at, past_at, spent_at}
 use Rattle.rules.proofs.Fields.{CountsFit, Within, set_within, blank_counts}
 use Rattle.rules.proofs.Possible.{JobFits, PresentFits, LastFits, Single, Possible, possible_parts, parts_possible}
@@ -211,16 +215,16 @@ module _ (bytes : List ℕ) (sheet : Sheet) (e : read_sheet bytes ≡ read sheet
   released_past i l h = past_at sheet st i l h ∙ π.past i l h
 
   -- the runner that the choice gives,
-  pub may_run : (i : ℕ) → runner sheet rs ≡ job i → MayRun sheet rs i
+  pub may_run : (i : ℕ) → runner sheet rs ≡ Rank i → MayRun sheet rs i
   may_run i z = runner_may sheet rs i z (λ k l u. ap (λ (r : TaskRecord). r.job.pending) (released_past k l u))
 
   -- and what the tick does with any that may run
-  module _ (x : Runner) (may : (i : ℕ) → x ≡ job i → MayRun sheet rs i) where
+  module _ (x : Runner) (may : (i : ℕ) → x ≡ Rank i → MayRun sheet rs i) where
     abbrev next : List TaskRecord
     next = after_runner x sheet st.t rs
 
     -- it is one of sixteen
-    pub runner_rank : (i : ℕ) → x ≡ job i → i < 16
+    pub runner_rank : (i : ℕ) → x ≡ Rank i → i < 16
     runner_rank i z = omega (arith, (may i z).rank, (accepted_within_limits bytes sheet e).tasks_to)
 
     -- after the runner
@@ -240,7 +244,7 @@ module _ (bytes : List ℕ) (sheet : Sheet) (e : read_sheet bytes ≡ read sheet
 
     -- a job holds what it held, or it is the runner and took it
     abbrev HeldOrTook : (i s : ℕ) → Type 0
-    HeldOrTook i s = (holds sheet rs i s ≡ true) ⊎ ((x ≡ job i) × (takes (task_at sheet i) (record_at rs i).job s ≡ true))
+    HeldOrTook i s = (holds sheet rs i s ≡ true) ⊎ ((x ≡ Rank i) × (takes (task_at sheet i) (record_at rs i).job s ≡ true))
 
     held_or_took : (i s : ℕ) → i < 16 → holds sheet next i s ≡ true → HeldOrTook i s
     unfolding holds
@@ -251,7 +255,7 @@ module _ (bytes : List ℕ) (sheet : Sheet) (e : read_sheet bytes ≡ read sheet
         (subst (λ (r : TaskRecord). carries (task_at sheet i) r.job s ≡ true) (spent_at x sheet st.t rs i l) h)
 
     -- so no semaphore is held by two: what the runner took no other holds
-    took_alone : (i k s : ℕ) → k < 16 → s < 16 → x ≡ job i → takes (task_at sheet i) (record_at rs i).job s ≡ true → holds sheet rs k s ≡ true → k ≡ i
+    took_alone : (i k s : ℕ) → k < 16 → s < 16 → x ≡ Rank i → takes (task_at sheet i) (record_at rs i).job s ≡ true → holds sheet rs k s ≡ true → k ≡ i
     unfolding held_by_other
     took_alone i k s lk ls z t h = ⊎_elim
         (λ u. eqb-true k i u)
@@ -265,20 +269,20 @@ module _ (bytes : List ℕ) (sheet : Sheet) (e : read_sheet bytes ≡ read sheet
         go (inl a) (inl b) = released_single i j s li lj ls a b
         go (inl a) (inr b) = took_alone j i s li ls b.0 b.1 a
         go (inr a) (inl b) = sym (took_alone i j s lj ls a.0 a.1 b)
-        go (inr a) (inr b) = let z : job i ≡ job j = sym a.0 ∙ b.0 in cc
+        go (inr a) (inr b) = let z : Rank i ≡ Rank j = sym a.0 ∙ b.0 in cc
 
     -- the job that ran last: the runner was released by this tick, and nobody else takes its place
     last_waits : LastFits n st.t st.last → LastFits n (st.t + 1) st.last
     last_waits (inl (r, l)) = inl (r, omega arith)
     last_waits (inr z) = inr z
 
-    ran_fits : (y : Runner) → ((k : ℕ) → y ≡ job k → MayRun sheet rs k) → LastFits n (st.t + 1) (ran_last y rs st.last)
+    ran_fits : (y : Runner) → ((k : ℕ) → y ≡ Rank k → MayRun sheet rs k) → LastFits n (st.t + 1) (ran_last y rs st.last)
     unfolding ran_last
-    ran_fits (job k) h =
+    ran_fits (Rank k) h =
         let μ = h k refl in
         inl (μ.rank, (released_fits k (omega (arith, μ.rank, (accepted_within_limits bytes sheet e).tasks_to))).release μ.pending)
-    ran_fits stuck h = last_waits π.last
-    ran_fits idle h = last_waits π.last
+    ran_fits Stuck h = last_waits π.last
+    ran_fits Idle h = last_waits π.last
 
     -- at most one switch a tick
     switches_rise : (b : Bool) → (if b then st.switches else st.switches + 1) ≤ st.t + 1

@@ -14,5 +14,6 @@ pub mod Names
 pub mod Fields
 pub mod Possible
 pub mod Steps
-pub mod Runner
+pub mod MayRun
 pub mod Kept
+pub mod Coded

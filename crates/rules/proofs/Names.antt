@@ -8,14 +8,14 @@ use mathlib.Core.Bool.{Bool, true, false}
 use native.Mathlib.Omega.{arith}
 use borrow.Author.Tests.{eqb-true, eq-eqb, ne_eqb}
 use lib.ListN.{length, drop, get_or-eq_default}
-use Rattle.std.specs.Prelude.{if◌then◌else◌}
+use Rattle.std.specs.Prelude.{Option, Some, None, if◌then◌else◌}
 use Rattle.rules.specs.Words.{◌<?◌, ◌≤?◌, ◌=?◌, some, smallest, largest}
 use Rattle.rules.specs.Sheet.{Step, Task, Sheet, no_task, task_at}
 use Rattle.rules.specs.Reading.{read, read_sheet}
 use Rattle.rules.specs.Choice.{ceiling}
-use Rattle.rules.specs.Bounds.{section_length, begins, steps_from, is_counted, counted_length, bound, gives, bound_by}
+use Rattle.rules.specs.Bounds.{section_length, begins, steps_from, is_counted, counted_length, bound, gives, bound_by, section}
 use Rattle.rules.specs.Laws.{GivenBy, GivenByNothing, Gives, NamesWhatGives}
-use Rattle.rules.specs.declared.By.{By}
+use Rattle.rules.specs.declared.Section.{Section}
 use Rattle.rules.proofs.Laws.{sure, below, true_false, and_left, and_right, and_both, some_of, someone, smallest_found, smallest_le, smallest_there, largest_at, largest_there}
 use Rattle.rules.proofs.Limits.{accepted_within_limits}
 
@@ -115,8 +115,8 @@ module _ (sheet : Sheet) (i : ℕ) (inside : (j k : ℕ) → is_counted sheet i 
   named : Gives sheet i (bound_by sheet i)
   unfolding bound_by
   named = ⊎_elim
-      (λ w. subst (λ (b : Bool). Gives sheet i (if b then By.Nothing else By.Section rank step)) (sym (ne_eqb rank 255 (λ z. omega (arith, w.0)))) (first w.1))
-      (λ w. subst (λ (b : Bool). Gives sheet i (if b then By.Nothing else By.Section rank step)) (sym (eq-eqb rank 255 w.0)) (nothing w.1))
+      (λ w. subst (λ (b : Bool). Gives sheet i (if b then None else Some (section rank step))) (sym (ne_eqb rank 255 (λ z. omega (arith, w.0)))) (first w.1))
+      (λ w. subst (λ (b : Bool). Gives sheet i (if b then None else Some (section rank step))) (sym (eq-eqb rank 255 w.0)) (nothing w.1))
       (smallest_found 16 255 (λ j. some 64 (it j)))
 
   -- two names that say so are one
@@ -128,13 +128,13 @@ module _ (sheet : Sheet) (i : ℕ) (inside : (j k : ℕ) → is_counted sheet i 
       (ap (λ (x : ℕ). is_counted sheet i x s) (sym e) ∙ b.counted)
       (ap (λ (x : ℕ). long x s) (sym e) ∙ b.length)
 
-  only_one : (x y : By) → Gives sheet i x → Gives sheet i y → x ≡ y
-  only_one (By.Section j k) (By.Section r s) a b =
-      let e : j ≡ r = omega (arith, same_rank j k r s a b, same_rank r s j k b a) in
-      ap₂ By.Section e (omega (arith, same_step j k r s (sym e) a b, same_step r s j k e b a))
-  only_one (By.Section j k) By.Nothing a b = true_false _ a.counted (b.none j k)
-  only_one By.Nothing (By.Section r s) a b = true_false _ b.counted (a.none r s)
-  only_one By.Nothing By.Nothing a b = refl
+  only_one : (x y : Option Section) → Gives sheet i x → Gives sheet i y → x ≡ y
+  only_one (Some x) (Some y) a b =
+      let e : x.rank ≡ y.rank = omega (arith, same_rank x.rank x.step y.rank y.step a b, same_rank y.rank y.step x.rank x.step b a) in
+      ap Some (ap₂ section e (omega (arith, same_step x.rank x.step y.rank y.step (sym e) a b, same_step y.rank y.step x.rank x.step e b a)))
+  only_one (Some x) None a b = true_false _ a.counted (b.none x.rank x.step)
+  only_one None (Some y) a b = true_false _ b.counted (a.none y.rank y.step)
+  only_one None None a b = refl
 
 -- an accepted sheet is such a one
 module _ (bytes : List ℕ) (sheet : Sheet) (e : read_sheet bytes ≡ read sheet) where
@@ -156,6 +156,6 @@ module _ (bytes : List ℕ) (sheet : Sheet) (e : read_sheet bytes ≡ read sheet
 pub names_what_gives : NamesWhatGives
 names_what_gives bytes sheet e i x =
     let inside = counted_few bytes sheet e i in (
-      (λ w. subst (λ (y : By). Gives sheet i y) w (named sheet i inside)),
+      (λ w. subst (λ (y : Option Section). Gives sheet i y) w (named sheet i inside)),
       (λ g. only_one sheet i inside (bound_by sheet i) x (named sheet i inside) g),
     )

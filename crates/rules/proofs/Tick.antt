@@ -8,10 +8,13 @@ use lib.ListN.{length, drop}
 use borrow.Author.Tests.{ltb-true, ltb-false, eqb-true, eqb-false, lt-ltb, le-ltb, not-true, not-false}
 use Rattle.rules.specs.Words.{◌<?◌, ◌=?◌}
 use Rattle.rules.specs.Sheet.{Task, Sheet, task_at}
-use Rattle.rules.specs.Fields.{Releases, Misses, TicksRun, up, standing, moved_to, no_job, with_job, with_counts, blank}
+use Rattle.rules.specs.Fields.{up, standing, moved_to, no_job, with_job, with_counts, blank}
 use Rattle.rules.specs.Record.{record_at}
-use Rattle.rules.specs.Choice.{Runner, job, stuck, idle, full}
+use Rattle.rules.specs.Choice.{full}
+use Rattle.rules.specs.declared.Runner.{Runner}
+use Rattle.rules.specs.declared.Runner.TheVariants.{Rank, Stuck, Idle}
 use Rattle.rules.specs.Tick.{completed, releases_at, released, after_releases, next_run, left_of_run, behind_unlocks, advanced, was_blocked, spent, after_runner}
+use Rattle.rules.specs.declared.Count.TheVariants.{Releases, Misses, TicksRun}
 use Rattle.rules.specs.declared.TaskRecord.{TaskRecord}
 use Rattle.rules.specs.declared.State.{State}
 use Rattle.rules.proofs.Laws.{and_left, and_right, and_denied, if_cases, row_at}
@@ -67,33 +70,33 @@ abbrev pub has_run : (t : ℕ) → Task → TaskRecord → TaskRecord
 has_run t task r = with_counts (up TicksRun (advanced t task r).counts) (advanced t task r)
 
 -- (nobody who is stuck or idle runs)
-stuck_runs : {A : Type 0} (k : ℕ) → stuck ≡ job k → A
+stuck_runs : {A : Type 0} (k : ℕ) → Stuck ≡ Rank k → A
 stuck_runs k z = absurd (let c : ◌≡◌ {A = ℕ} 0 1 = cc in omega arith)
 
-idle_runs : {A : Type 0} (k : ℕ) → idle ≡ job k → A
+idle_runs : {A : Type 0} (k : ℕ) → Idle ≡ Rank k → A
 idle_runs k z = absurd (let c : ◌≡◌ {A = ℕ} 0 1 = cc in omega arith)
 
 -- (a runner has one rank)
-same_rank : (i k : ℕ) → job i ≡ job k → i ≡ k
+same_rank : (i k : ℕ) → Rank i ≡ Rank k → i ≡ k
 same_rank i k z = cc
 
 -- the runner, a pending job of smaller rank, or any other, whose record stays
 pub spent_cases : (P : TaskRecord → Type 0) (x : Runner) (t i : ℕ) (task : Task) (r : TaskRecord)
-    → (x ≡ job i → P (has_run t task r))
-    → ((k : ℕ) → x ≡ job k → i < k → r.job.pending ≡ true → P (was_blocked r))
-    → ((x ≡ job i → ⊥) → ((k : ℕ) → x ≡ job k → i < k → r.job.pending ≡ false) → P r)
+    → (x ≡ Rank i → P (has_run t task r))
+    → ((k : ℕ) → x ≡ Rank k → i < k → r.job.pending ≡ true → P (was_blocked r))
+    → ((x ≡ Rank i → ⊥) → ((k : ℕ) → x ≡ Rank k → i < k → r.job.pending ≡ false) → P r)
     → P (spent x t i task r)
 unfolding spent
-spent_cases P (job x) t i task r runs waits rests =
+spent_cases P (Rank x) t i task r runs waits rests =
     if_cases P (i =? x) _ _
-    (λ e. runs (ap job (sym (eqb-true i x e))))
+    (λ e. runs (ap Rank (sym (eqb-true i x e))))
     (λ e. if_cases P (i <? x && r.job.pending) _ _
     (λ u. waits x refl (ltb-true i x (and_left (i <? x) _ u)) (and_right (i <? x) _ u))
     (λ u. rests
     (λ z. eqb-false i x e (sym (same_rank x i z)))
     (λ k z l. and_denied (i <? x) r.job.pending u (lt-ltb i x (omega (arith, same_rank x k z))))))
-spent_cases P stuck t i task r runs waits rests = rests (stuck_runs i) (λ k z. stuck_runs k z)
-spent_cases P idle t i task r runs waits rests = rests (idle_runs i) (λ k z. idle_runs k z)
+spent_cases P Stuck t i task r runs waits rests = rests (stuck_runs i) (λ k z. stuck_runs k z)
+spent_cases P Idle t i task r runs waits rests = rests (idle_runs i) (λ k z. idle_runs k z)
 
 -- the record of each rank after the releases, and after the runner
 pub released_at : (sheet : Sheet) (st : State) (i : ℕ) → i < 16 → i < length sheet.tasks

@@ -1,8 +1,8 @@
 -- WHAT EACH CALL ANSWERS, refused calls too.
-use Rattle.std.specs.Prelude.{ℕ, suc, List, true, false, not, length, replicate, ℤ, pos, negsuc, if◌then◌else◌}
+use Rattle.std.specs.Prelude.{ℕ, List, true, false, not, None, length, replicate, pos, if◌then◌else◌}
 use Rattle.rules.specs.Words.{◌<?◌, ◌=?◌, row}
 use Rattle.rules.specs.Sheet.{Sheet}
-use Rattle.rules.specs.Reading.{Reading, read, refused, refusal, refuse◌when◌, ◌>>=◌, ◌>>◌, read_sheet}
+use Rattle.rules.specs.Reading.{Numbers, Reading, read, refused, refusal, refuse◌when◌, ◌>>=◌, ◌>>◌, read_sheet}
 use Rattle.rules.specs.Fields.{no_state, start}
 use Rattle.rules.specs.Record.{possible}
 use Rattle.rules.specs.Choice.{ceiling, runner_byte}
@@ -10,20 +10,12 @@ use Rattle.rules.specs.Tick.{runner_of, tick}
 use Rattle.rules.specs.Run.{after, written}
 use Rattle.rules.specs.Bounds.{bound, bound_by, laxity}
 use Rattle.rules.specs.declared.State.{State}
-use Rattle.rules.specs.declared.Refusal.{Refusal}
-use Rattle.rules.specs.declared.Checked.{Checked}
-use Rattle.rules.specs.declared.Ceilings.{Ceilings}
-use Rattle.rules.specs.declared.By.{By}
+use Rattle.rules.specs.declared.Section.{Section}
 use Rattle.rules.specs.declared.Bound.{Bound}
-use Rattle.rules.specs.declared.Bounds.{Bounds}
 use Rattle.rules.specs.declared.Laxity.{Laxity}
-use Rattle.rules.specs.declared.Laxities.{Laxities}
-use Rattle.rules.specs.declared.Ticked.{Ticked}
-use Rattle.rules.specs.declared.Told.{Told}
-use Rattle.rules.specs.declared.Ran.{Ran}
 
 -- A refusal gives its number, the task's rank and the step's index; where there is none, all three are zero.
-unfoldable pub why : {A : Type 0} → Reading A → Refusal
+unfoldable pub why : {A : Type 0} → Reading A → Numbers
 why (read a) = refusal 0 0 0
 why (refused x) = x
 
@@ -35,6 +27,39 @@ made (refused x) other f = other
 -- Sixteen values: one for each of the sheet's tasks, zero behind them.
 unfoldable pub by_rank : {A : Type 0} → A → (Sheet → ℕ → A) → Sheet → List A
 by_rank zero f sheet = row 16 λ i. if i <? length sheet.tasks then f sheet i else zero
+
+-- The answers as document 01 lists their fields. In code an answer is a value or a refusal: Coded.antt has the tie.
+pub record Checked : Type 0 where
+  pub refusal : Numbers
+  pub tasks : ℕ
+  pub semaphores : ℕ
+  pub mode : ℕ
+
+pub record Ceilings : Type 0 where
+  pub refusal : Numbers
+  pub ceilings : List ℕ
+
+pub record Bounds : Type 0 where
+  pub refusal : Numbers
+  pub bounds : List Bound
+
+pub record Laxities : Type 0 where
+  pub refusal : Numbers
+  pub laxities : List Laxity
+
+-- What a tick tells: who ran. By value it has the next record too.
+pub record Told : Type 0 where
+  pub refusal : Numbers
+  pub runner : ℕ
+
+pub record Ticked : Type 0 where
+  pub told : Told
+  pub state : State
+
+-- A whole run: the record at its end.
+pub record Ran : Type 0 where
+  pub refusal : Numbers
+  pub state : State
 
 -- The sheet check: how many tasks and semaphores, and the mode.
 unfoldable pub check : (bytes : List ℕ) → Checked
@@ -58,23 +83,19 @@ unfoldable pub bound_of : Sheet → (i : ℕ) → Bound
 bound_of sheet i = record { ticks = bound sheet i; by = bound_by sheet i }
 
 abbrev pub no_bound : Bound
-no_bound = record { ticks = 0; by = By.Nothing }
+no_bound = record { ticks = 0; by = None }
 
 unfoldable pub bounds : (bytes : List ℕ) → Bounds
 bounds bytes =
     let r = read_sheet bytes in
     record { refusal = why r; bounds = made r (replicate 16 no_bound) (by_rank no_bound bound_of) }
 
--- A laxity may be negative: its sign and its size, and what gives the bound in it.
-unfoldable pub signed : ℤ → By → Laxity
-signed (pos n) by = record { below = false; size = n; by = by }
-signed (negsuc n) by = record { below = true; size = suc n; by = by }
-
+-- The laxity of a task, which may be negative, and what gives the bound in it.
 unfoldable pub laxity_of : Sheet → (i : ℕ) → Laxity
-laxity_of sheet i = signed (laxity sheet i) (bound_by sheet i)
+laxity_of sheet i = record { ticks = laxity sheet i; by = bound_by sheet i }
 
 abbrev pub no_laxity : Laxity
-no_laxity = record { below = false; size = 0; by = By.Nothing }
+no_laxity = record { ticks = pos 0; by = None }
 
 unfoldable pub laxities : (bytes : List ℕ) → Laxities
 laxities bytes =

@@ -1,10 +1,10 @@
 -- BOUNDS AND LAXITIES.
-use Rattle.std.specs.Prelude.{ℕ, zero, suc, ◌+◌, ◌*◌, ◌/◌, ◌%◌, List, [], ◌∷◌, Bool, false, ◌&&◌, drop, ℤ, pos, ◌-ℤ◌, if◌then◌else◌}
+use Rattle.std.specs.Prelude.{ℕ, zero, suc, ◌+◌, ◌*◌, ◌/◌, ◌%◌, List, [], ◌∷◌, Bool, false, ◌&&◌, drop, Option, Some, None, ℤ, pos, ◌-ℤ◌, if◌then◌else◌}
 use Rattle.std.specs.Int.Signed.{le_z}
 use Rattle.rules.specs.Words.{◌<?◌, ◌≤?◌, ◌=?◌, some, smallest, largest, total}
 use Rattle.rules.specs.Sheet.{Step, run, lock, unlock, Task, Sheet, task_at}
 use Rattle.rules.specs.Choice.{ceiling}
-use Rattle.rules.specs.declared.By.{By}
+use Rattle.rules.specs.declared.Section.{Section}
 
 -- The sum of the runs among steps.
 unfoldable pub runs : List Step → ℕ
@@ -55,12 +55,15 @@ bound sheet i = largest 16 λ j. largest 64 λ k. counted_length sheet i j k
 unfoldable pub gives : Sheet → (i ticks j k : ℕ) → Bool
 gives sheet i ticks j k = is_counted sheet i j k && section_length (steps_from sheet j k) =? ticks
 
+abbrev pub section : (rank step : ℕ) → Section
+section rank step = record { rank = rank; step = step }
+
 -- What gives the bound of task i: the section of the smallest rank and then of the smallest lock step; nothing if there is none.
-unfoldable pub bound_by : Sheet → (i : ℕ) → By
+unfoldable pub bound_by : Sheet → (i : ℕ) → Option Section
 bound_by sheet i =
     let ticks = bound sheet i in
     let rank = smallest 16 255 λ j. some 64 (gives sheet i ticks j) in
-    if rank =? 255 then By.Nothing else By.Section rank (smallest 64 255 (gives sheet i ticks rank))
+    if rank =? 255 then None else Some (section rank (smallest 64 255 (gives sheet i ticks rank)))
 
 -- C is the sum of a task's runs.
 unfoldable pub cost : Task → ℕ

@@ -1,14 +1,15 @@
 -- NUMBERS TO HOLD AGAINST IT: the eight cases marked proved, one list under one statement.
-use Rattle.std.specs.Prelude.{ℕ, ◌≡◌, List, [], ◌∷◌, ◌++◌, true, length, replicate, ℤ, pos, negsuc}
+use Rattle.std.specs.Prelude.{ℕ, ◌≡◌, List, [], ◌∷◌, ◌++◌, true, length, replicate, ℤ, pos, negsuc, Option, Some, None}
 use Rattle.rules.specs.Words.{row}
 use Rattle.rules.specs.Sheet.{Sheet}
 use Rattle.rules.specs.Reading.{Reading, read, refused, read_sheet}
-use Rattle.rules.specs.Fields.{Releases, TicksRun, up, standing, no_counts, counted, blank, last_job, start}
+use Rattle.rules.specs.Fields.{up, standing, no_counts, counted, blank, last_job, start}
 use Rattle.rules.specs.Record.{record_at, possible}
 use Rattle.rules.specs.Laws.{All}
 use Rattle.rules.specs.Run.{after, trace}
-use Rattle.rules.specs.Bounds.{bound, bound_by, laxity}
-use Rattle.rules.specs.declared.By.{By}
+use Rattle.rules.specs.Bounds.{bound, bound_by, laxity, section}
+use Rattle.rules.specs.declared.Count.TheVariants.{Releases, TicksRun}
+use Rattle.rules.specs.declared.Section.{Section}
 use Rattle.rules.specs.declared.State.{State}
 use Rattle.rules.specs.declared.TaskRecord.{TaskRecord}
 
@@ -19,7 +20,7 @@ pub data Outcome : Type 0 where
   Switches : ℕ → Outcome
   Counts : ℕ → List ℕ → Outcome
   Bounds : List ℕ → Outcome
-  Names : List By → Outcome
+  Names : List (Option Section) → Outcome
   Laxities : List ℤ → Outcome
   Ends : State → Outcome
 
@@ -82,7 +83,7 @@ A = record {
       ∷ Counts 0 (1 ∷ 1 ∷ 0 ∷ 2 ∷ 2 ∷ 4 ∷ 2 ∷ [])
       ∷ Counts 1 (1 ∷ 1 ∷ 0 ∷ 5 ∷ 0 ∷ 7 ∷ 0 ∷ [])
       ∷ Bounds (3 ∷ 0 ∷ [])
-      ∷ Names (By.Section 1 1 ∷ By.Nothing ∷ [])
+      ∷ Names (Some (section 1 1) ∷ None ∷ [])
       ∷ Laxities (pos 5 ∷ pos 11 ∷ [])
       ∷ [];
 }
@@ -126,7 +127,7 @@ B = record {
   ticks = 0;
   outcomes =
       Bounds (0 ∷ 4 ∷ 4 ∷ 0 ∷ [])
-      ∷ Names (By.Nothing ∷ By.Section 3 1 ∷ By.Section 3 1 ∷ By.Nothing ∷ [])
+      ∷ Names (None ∷ Some (section 3 1) ∷ Some (section 3 1) ∷ None ∷ [])
       ∷ Laxities (pos 6 ∷ negsuc 0 ∷ pos 2 ∷ pos 8 ∷ [])
       ∷ [];
 }
@@ -184,7 +185,7 @@ F = record {
       Ends start
       ∷ Trace []
       ∷ Bounds (3 ∷ 0 ∷ [])
-      ∷ Names (By.Section 1 1 ∷ By.Nothing ∷ [])
+      ∷ Names (Some (section 1 1) ∷ None ∷ [])
       ∷ Laxities (pos 5 ∷ pos 11 ∷ [])
       ∷ [];
 }

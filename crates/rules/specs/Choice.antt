@@ -6,14 +6,12 @@ use Rattle.rules.specs.Sheet.{Step, run, lock, unlock, Task, Sheet, task_at, is_
 use Rattle.rules.specs.Record.{record_at, behind, ahead, holds}
 use Rattle.rules.specs.declared.Job.{Job}
 use Rattle.rules.specs.declared.TaskRecord.{TaskRecord}
+use Rattle.rules.specs.declared.Runner.{Runner}
+use Rattle.rules.specs.declared.Runner.TheVariants.{Rank, Stuck, Idle}
 
 -- The runner is a job, by its rank, or nobody: 254 (stuck), 255 (idle).
-pub data Runner : Type 0 where
-  job : ℕ → Runner
-  stuck idle : Runner
-
 unfoldable pub runner_byte : Runner → ℕ
-runner_byte = elim [ job i ↦ i | stuck ↦ 254 | idle ↦ 255 ]
+runner_byte = elim [ Rank i ↦ i | Stuck ↦ 254 | Idle ↦ 255 ]
 
 -- 2. The ceiling of a semaphore is the smallest rank that has a lock of it; 255 if none.
 unfoldable pub locks : Task → (s : ℕ) → Bool
@@ -73,21 +71,21 @@ module _ (sheet : Sheet) (records : List TaskRecord) where
 
   -- Repeat. The first that may go is the runner. If a candidate comes round again, nobody runs and the runner is 254.
   pub data Walks : (seen : List ℕ) (i : ℕ) → Runner → Type 0 where
-    the_runner : {seen : List ℕ} {i : ℕ} → among i seen ≡ false → may_go i ≡ true → Walks seen i (job i)
-    comes_round : {seen : List ℕ} {i : ℕ} → among i seen ≡ true → Walks seen i stuck
+    the_runner : {seen : List ℕ} {i : ℕ} → among i seen ≡ false → may_go i ≡ true → Walks seen i (Rank i)
+    comes_round : {seen : List ℕ} {i : ℕ} → among i seen ≡ true → Walks seen i Stuck
     onward : {seen : List ℕ} {i : ℕ} {x : Runner} → among i seen ≡ false → may_go i ≡ false
         → Walks (i ∷ seen) (next_candidate i) x → Walks seen i x
 
   -- The same, computed: `more` is how many ranks can be new, and where none can, this candidate has come round.
   unfoldable pub walk : (more : ℕ) (seen : List ℕ) (i : ℕ) → Runner
-  walk zero seen i = stuck
+  walk zero seen i = Stuck
   walk (suc more) seen i =
       let further = walk more (i ∷ seen) (next_candidate i) in
-      if among i seen then stuck else
-      if may_go i then job i else further
+      if among i seen then Stuck else
+      if may_go i then Rank i else further
 
   -- From the pending job of smallest rank. If none is pending, it is 255 (idle).
   unfoldable pub runner : Runner
   runner =
       let walked = walk 16 [] (top_job records) in
-      if top_job records =? 255 then idle else walked
+      if top_job records =? 255 then Idle else walked

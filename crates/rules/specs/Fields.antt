@@ -2,16 +2,15 @@
 use Rattle.std.specs.Prelude.{ℕ, ◌+◌, List, [], ◌∷◌, map, Bool, true, false, not, ◌&&◌, replicate, if◌then◌else◌}
 use Rattle.rules.specs.Words.{◌=?◌, all}
 use Rattle.rules.specs.declared.Job.{Job}
+use Rattle.rules.specs.declared.Count.{Count}
+use Rattle.rules.specs.declared.Count.TheVariants.{Releases, Completions, Misses, TicksRun, TicksBlocked, WorstResponse, MostBlocked}
 use Rattle.rules.specs.declared.Counts.{Counts}
 use Rattle.rules.specs.declared.TaskRecord.{TaskRecord}
 use Rattle.rules.specs.declared.LastJob.{LastJob}
 use Rattle.rules.specs.declared.State.{State}
 
 -- The counts of releases, completions, misses, ticks run, ticks blocked, the worst response, and the most ticks blocked that any
--- job had: by name,
-pub data Count : Type 0 where
-  Releases Completions Misses TicksRun TicksBlocked WorstResponse MostBlocked : Count
-
+-- job had: by name (`Count`),
 abbrev pub every_count : List Count
 every_count = Releases ∷ Completions ∷ Misses ∷ TicksRun ∷ TicksBlocked ∷ WorstResponse ∷ MostBlocked ∷ []
 

@@ -1,19 +1,22 @@
 -- WHAT FOLLOWS: laws that make the definitions trustworthy. Each is proved in proofs/.
-use Rattle.std.specs.Prelude.{ℕ, ◌*◌, ◌≤◌, ◌<◌, ◌≡◌, ◌⊎◌, ◌↔◌, List, [], ◌∷◌, ◌++◌, Bool, true, false, not, ◌&&◌, length, take, ℤ, pos, negsuc}
+use Rattle.std.specs.Prelude.{ℕ, ◌*◌, ◌≤◌, ◌<◌, ◌≡◌, ◌⊎◌, ◌↔◌, List, [], ◌∷◌, ◌++◌, Bool, true, false, not, ◌&&◌, length, take, ℤ, pos, negsuc, Option, Some, None}
 use Rattle.std.specs.Int.Signed.{non_neg}
 use Rattle.rules.specs.Words.{◌≤?◌, any, leading}
 use Rattle.rules.specs.Sheet.{Step, run, lock, unlock, Task, Sheet, task_at, Body, is_lock, is_lock_of, held}
-use Rattle.rules.specs.Reading.{Reading, read, refused, longest_sheet, misplaced, read_sheet}
+use Rattle.rules.specs.Reading.{Reading, read, refused, longest_sheet, misplaced, read_sheet, Numbers}
 use Rattle.rules.specs.Fields.{start}
 use Rattle.rules.specs.Record.{record_at, ahead, possible}
-use Rattle.rules.specs.Choice.{Runner, job, Walks, top_job, held_by_other, runner}
+use Rattle.rules.specs.Choice.{runner_byte, Walks, top_job, held_by_other, runner}
+use Rattle.rules.specs.declared.Runner.{Runner}
+use Rattle.rules.specs.declared.Runner.TheVariants.{Rank}
 use Rattle.rules.specs.Tick.{after_releases, runner_of, tick}
 use Rattle.rules.specs.Bounds.{section_length, steps_from, is_counted, bound, bound_by, rounded_up, demand, slack, laxity}
 use Rattle.rules.specs.Answers.{read_tick, read_run}
-use Rattle.rules.specs.declared.By.{By}
+use Rattle.rules.specs.Coded.{numbers, checked, ceilings_in, bounds_in, laxities_in, told_byte, told_in, ticked_in, ran_in}
+use Rattle.rules.specs.declared.Refusal.{Refusal}
+use Rattle.rules.specs.declared.Section.{Section}
 use Rattle.rules.specs.declared.Head.{Head}
 use Rattle.rules.specs.declared.Job.{Job}
-use Rattle.rules.specs.declared.Refusal.{Refusal}
 use Rattle.rules.specs.declared.TaskRecord.{TaskRecord}
 use Rattle.rules.specs.declared.State.{State}
 
@@ -64,7 +67,7 @@ AcceptedWithinLimits = (bytes : List ℕ) (sheet : Sheet) → read_sheet bytes �
 
 -- A refusal gives its number, 1 to 17, the task's rank (7 to 12, else 0) and the step's index (11 and 12, else 0). A rank is
 -- below 16, and a step is at most 64, which is a step count where sections are open.
-pub record Given (x : Refusal) : Type 0 where
+pub record Given (x : Numbers) : Type 0 where
   pub some : 1 ≤ x.number
   pub number : x.number ≤ 17
   pub rank : (x.number < 7) ⊎ (12 < x.number) → x.rank ≡ 0
@@ -81,6 +84,25 @@ pub record RefusalsGiven : Type 0 where
   pub of_sheet : (bytes : List ℕ) → Numbered (read_sheet bytes)
   pub of_tick : (bytes : List ℕ) (st : State) → Numbered (read_tick bytes st)
   pub of_run : (bytes : List ℕ) (horizon : ℕ) (buffer : List ℕ) → Numbered (read_run bytes horizon buffer)
+
+-- The tie of answers in code to document 01's fields loses nothing: answers that it gives the same fields are the same.
+abbrev pub LosesNothing : {A B : Type 0} → (A → B) → Type 0
+LosesNothing {A} tie = (one other : A) → tie one ≡ tie other → one ≡ other
+
+pub record TieLosesNothing : Type 0 where
+  -- Each refusal has a number, and no two have the same number, rank and step.
+  pub some : (x : Refusal) → 1 ≤ (numbers x).number
+  pub of_refusals : LosesNothing numbers
+  pub of_check : LosesNothing checked
+  pub of_ceilings : LosesNothing ceilings_in
+  pub of_bounds : LosesNothing bounds_in
+  pub of_laxities : LosesNothing laxities_in
+  -- Who ran is told by a number of its own, which is the runner byte for every rank below 254.
+  pub of_runners : LosesNothing told_byte
+  pub runner : (x : Runner) → ((i : ℕ) → x ≡ Rank i → i < 254) → told_byte x ≡ runner_byte x
+  pub of_told : LosesNothing told_in
+  pub of_tick : LosesNothing ticked_in
+  pub of_run : LosesNothing ran_in
 
 -- Rule 4 as computed finds what document 01 says: the first candidate that may go, or a candidate that comes round again.
 abbrev pub WalksToRunner : Type 0
@@ -101,7 +123,7 @@ pub record MayRun (sheet : Sheet) (records : List TaskRecord) (i : ℕ) : Type 0
 -- The choice, rules 2 to 4, gives such a runner after the releases of a possible state.
 abbrev pub RunnerMayRun : Type 0
 RunnerMayRun = (bytes : List ℕ) (sheet : Sheet) → read_sheet bytes ≡ read sheet → (st : State) → possible sheet st ≡ true
-    → (i : ℕ) → runner_of sheet st ≡ job i → MayRun sheet (after_releases sheet st) i
+    → (i : ℕ) → runner_of sheet st ≡ Rank i → MayRun sheet (after_releases sheet st) i
 
 -- The start record is possible, and a tick of a possible state below tick 60,000 gives a possible state.
 abbrev pub StartPossible : Type 0
@@ -125,13 +147,13 @@ pub record GivenByNothing (sheet : Sheet) (i : ℕ) : Type 0 where
   pub none : (j k : ℕ) → is_counted sheet i j k ≡ false
   pub zero : bound sheet i ≡ 0
 
-abbrev pub Gives : Sheet → (i : ℕ) → By → Type 0
-Gives sheet i (By.Section j k) = GivenBy sheet i j k
-Gives sheet i By.Nothing = GivenByNothing sheet i
+abbrev pub Gives : Sheet → (i : ℕ) → Option Section → Type 0
+Gives sheet i (Some x) = GivenBy sheet i x.rank x.step
+Gives sheet i None = GivenByNothing sheet i
 
 -- The name says what gives the bound, and no other name does.
 abbrev pub NamesWhatGives : Type 0
-NamesWhatGives = (bytes : List ℕ) (sheet : Sheet) → read_sheet bytes ≡ read sheet → (i : ℕ) → (x : By)
+NamesWhatGives = (bytes : List ℕ) (sheet : Sheet) → read_sheet bytes ≡ read sheet → (i : ℕ) → (x : Option Section)
     → (bound_by sheet i ≡ x) ↔ Gives sheet i x
 
 -- A point of task i: l times the period of task k, k at most i, l from 1, at most task i's period.

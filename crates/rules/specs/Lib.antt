@@ -9,6 +9,7 @@ pub mod Tick
 pub mod Run
 pub mod Bounds
 pub mod Answers
+pub mod Coded
 pub mod Promises
 pub mod Laws
 pub mod Cases

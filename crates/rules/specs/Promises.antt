@@ -2,15 +2,8 @@
 -- `ensures` and the theorems cite these same definitions.
 use Rattle.std.specs.Prelude.{ℕ, ◌≡◌, List}
 use Rattle.rules.specs.Fields.{start}
-use Rattle.rules.specs.Answers.{check, ceilings, bounds, laxities, ticked, told, record_after, ran, buffer_after}
+use Rattle.rules.specs.Answers.{check, ceilings, bounds, laxities, ticked, told, record_after, ran, buffer_after, Checked, Ceilings, Bounds, Laxities, Ticked, Told, Ran}
 use Rattle.rules.specs.declared.State.{State}
-use Rattle.rules.specs.declared.Checked.{Checked}
-use Rattle.rules.specs.declared.Ceilings.{Ceilings}
-use Rattle.rules.specs.declared.Bounds.{Bounds}
-use Rattle.rules.specs.declared.Laxities.{Laxities}
-use Rattle.rules.specs.declared.Ticked.{Ticked}
-use Rattle.rules.specs.declared.Told.{Told}
-use Rattle.rules.specs.declared.Ran.{Ran}
 
 -- start(): the record of a run at its start
 abbrev pub start_contract : State → Type 0

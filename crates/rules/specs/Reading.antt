@@ -3,16 +3,20 @@ use Rattle.std.specs.Prelude.{ℕ, zero, suc, ◌+◌, ◌*◌, List, [], ◌∷
 use Rattle.rules.specs.Words.{◌<?◌, ◌≤?◌, ◌=?◌, within, any, among}
 use Rattle.rules.specs.Sheet.{Step, run, lock, unlock, Task, Sheet, is_lock, held}
 use Rattle.rules.specs.declared.Head.{Head}
-use Rattle.rules.specs.declared.Refusal.{Refusal}
 
 -- A refusal gives its number, the task's rank and the step's index.
-abbrev pub refusal : (number rank step : ℕ) → Refusal
+pub record Numbers : Type 0 where
+  pub number : ℕ
+  pub rank : ℕ
+  pub step : ℕ
+
+abbrev pub refusal : (number rank step : ℕ) → Numbers
 refusal number rank step = record { number = number; rank = rank; step = step }
 
 -- What is read, or why not. The first refusal in reading order counts.
 pub data Reading (A : Type 0) : Type 0 where
   read : A → Reading A
-  refused : Refusal → Reading A
+  refused : Numbers → Reading A
 
 infixl 1 ◌>>=◌ ◌>>◌
 unfoldable pub ◌>>=◌ : {A B : Type 0} → Reading A → (A → Reading B) → Reading B

@@ -2,9 +2,12 @@
 use Rattle.std.specs.Prelude.{ℕ, ◌+◌, ◌-◌, ◌%◌, max, List, Bool, not, ◌&&◌, length, drop, if◌then◌else◌}
 use Rattle.rules.specs.Words.{◌<?◌, ◌≤?◌, ◌=?◌, row, leading}
 use Rattle.rules.specs.Sheet.{Task, Sheet, task_at, is_lock, is_unlock}
-use Rattle.rules.specs.Fields.{Releases, Completions, Misses, TicksRun, TicksBlocked, WorstResponse, MostBlocked, with_count, up, standing, moved_to, held_up, no_job, with_job, with_counts, last_job, same_job}
+use Rattle.rules.specs.Fields.{with_count, up, standing, moved_to, held_up, no_job, with_job, with_counts, last_job, same_job}
 use Rattle.rules.specs.Record.{record_at, ahead}
-use Rattle.rules.specs.Choice.{Runner, job, stuck, idle, full, runner}
+use Rattle.rules.specs.Choice.{full, runner}
+use Rattle.rules.specs.declared.Runner.{Runner}
+use Rattle.rules.specs.declared.Runner.TheVariants.{Rank, Stuck, Idle}
+use Rattle.rules.specs.declared.Count.TheVariants.{Releases, Completions, Misses, TicksRun, TicksBlocked, WorstResponse, MostBlocked}
 use Rattle.rules.specs.declared.Job.{Job}
 use Rattle.rules.specs.declared.Counts.{Counts}
 use Rattle.rules.specs.declared.TaskRecord.{TaskRecord}
@@ -64,12 +67,12 @@ was_blocked r =
 
 -- Its ticks run rise by one. Each pending job of smaller rank than a running job is blocked for this tick.
 unfoldable pub spent : Runner → (t i : ℕ) → Task → TaskRecord → TaskRecord
-spent (job x) t i task r =
+spent (Rank x) t i task r =
     let ran = advanced t task r in
     if i =? x then with_counts (up TicksRun ran.counts) ran else
     if i <? x && r.job.pending then was_blocked r else r
-spent stuck t i task r = r
-spent idle t i task r = r
+spent Stuck t i task r = r
+spent Idle t i task r = r
 
 unfoldable pub after_runner : Runner → Sheet → (t : ℕ) → List TaskRecord → List TaskRecord
 after_runner x sheet t records = row 16 λ i. spent x t i (task_at sheet i) (record_at records i)
@@ -81,9 +84,9 @@ job_of records i = last_job i (record_at records i).job.release
 -- idle and stuck ticks passed over. (Of the records after the releases: there a job that completes in this tick still has its
 -- release tick.)
 unfoldable pub ran_last : Runner → List TaskRecord → (before : LastJob) → LastJob
-ran_last (job i) records before = job_of records i
-ran_last stuck records before = before
-ran_last idle records before = before
+ran_last (Rank i) records before = job_of records i
+ran_last Stuck records before = before
+ran_last Idle records before = before
 
 -- A switch is counted when a job runs and it is another job than the one that ran last; the first job to run counts.
 -- Then t rises by one.

@@ -1,5 +1,4 @@
-pub mod Tests
-pub mod Heads
+pub mod Turns
 pub mod Steps
+pub mod Parts
 pub mod Tasks
-pub mod Sheets

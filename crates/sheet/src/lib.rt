@@ -1,315 +1,206 @@
 // The reader of task sheets: bytes give a table or a refusal.
-// Each reading step answers a value with the next cursor, or a refusal: specs/Reader.antt says what the answers mean, and
-// what is read stands in the rules.
+// Each reading step reads at the front of some bytes. It answers a value with the next cursor, which is the rest of the bytes, or
+// a refusal: specs/Reader.antt says what the answers mean, and what is read stands in the rules.
 #![tactic(auto)]
 
-ghost use Rattle.std.specs.Prelude.{◌≡◌, ◌+◌, ◌≤◌, ◌<◌, length};
-ghost use Rattle.rules.specs.Reading.{read, refusal, byte, marked, head_length, longest_sheet};
-ghost use Rattle.rules.specs.Answers.{why};
-ghost use Rattle.table.specs.Table.{Lies};
-ghost use Rattle.sheet.specs.Reader.{head_in, head_there, step_in, StepFrom, entry_in, entry_there, steps_there, TaskFrom, no_entries, turned_away, ParsedFrom};
+ghost use Rattle.std.specs.Prelude.{◌≡◌, ◌*◌, ◌≤◌, List, length, false, IfOk};
+ghost use Rattle.rules.specs.Sheet.{Step as Rules·Step};
+ghost use Rattle.rules.specs.Reading.{read_head, head_length, read_task_head, misplaced_in, read_step, read_task, read_tasks, read_sheet};
+ghost use Rattle.rules.specs.Laws.{StepLimits};
+ghost use Rattle.rules.specs.Coded.{reading};
+ghost use Rattle.table.specs.Steps.{meant};
+ghost use Rattle.steps.specs.Nesting.{open_behind};
+ghost use Rattle.sheet.specs.Reader.{with_rest, steps_there};
 
+use arrayvec::ArrayVec;
 use rules::{Head, Refusal};
-use steps::{Nest, is_known, is_misplaced, nested, within};
-use table::{Entry, Table};
+use std::marker::Model;
+use steps::{Nest, known_step};
+use table::{Step, Table, Task};
 
-// The head of a sheet, and the place behind it.
-#[derive(Clone, Copy)]
-pub enum HeadRead {
-    Begun(Head, usize),
-    NoHead(Refusal),
+// The head of a task, with the count of the steps that stand behind it. A clause sees it as document 01's.
+#[derive(Drop)]
+struct TaskHead {
+    period: u16,
+    offset: u16,
+    count: u8,
 }
 
-// A task's entry, and the place behind what was read.
-#[derive(Clone, Copy)]
-pub enum TaskRead {
-    Opened(Entry, usize),
-    NoTask(Refusal),
-}
+impl Model for TaskHead {
+    ghost use Rattle.std.specs.Prelude.{◌≤◌};
+    ghost use Rattle.rules.specs.Reading.{TaskHead as Rules·TaskHead};
 
-// A step's kind and value, and the place behind it.
-#[derive(Clone, Copy)]
-pub enum StepRead {
-    Placed(u8, u16, usize),
-    NoStep(Refusal),
-}
+    ghost Value = { Rules·TaskHead };
 
-// Why a sheet is turned away, or its table.
-#[derive(Clone, Copy)]
-pub struct Parsed {
-    pub refusal: Refusal,
-    pub table: Table,
-}
+    ghost view = { λ x. record { period = x.period; offset = x.offset; count = x.count } };
 
-fn refusal(number: u8, rank: u8, step: u8) -> Refusal
-    ensures { result ≡ refusal number rank step }
-{
-    Refusal {
-        number: number,
-        rank: rank,
-        step: step,
-    }
-}
-
-// The byte at a place.
-fn byte_at(s: &[u8], at: usize) -> u8
-    requires { at < length s.now }
-    ensures { result ≡ byte s.now at }
-{
-    s[at]
-}
-
-// The mark is "LTS".
-fn is_marked(s: &[u8]) -> bool
-    requires { 8 ≤ length s.now }
-    ensures { result ≡ marked s.now }
-{
-    if byte_at(s, 0) != 0x4C {
-        return false;
-    }
-    if byte_at(s, 1) != 0x54 {
-        return false;
-    }
-    byte_at(s, 2) == 0x53
+    ghost invariant = { λ x. (1 ≤ x.period) × (x.count ≤ 64) };
 }
 
 // The head: 1 to 6 in turn.
-fn read_head(s: &[u8]) -> HeadRead
-    ensures { head_in result ≡ head_there s.now }
+#[tactic(auto, using(crate::proofs::Turns::in_turn), unfolding(crate::specs::Reader::with_rest, rules::specs::Reading::read_head, rules::specs::Reading::marked, rules::specs::Reading::word, rules::specs::Reading::byte, rules::specs::Words::within))]
+fn read_head(bytes: &[u8]) -> Result<(Head, &[u8]), Refusal>
+    ensures reads { reading (λ (head, rest). (head, rest.now)) result
+        ≡ with_rest 8 bytes.now (read_head bytes.now) }
+    ensures few { IfOk result (λ (head, rest). (head.n ≤ 16) × (head.semaphores ≤ 16)) }
 {
-    if s.len() < 8 {
-        return HeadRead::NoHead(refusal(1, 0, 0));
-    }
-    if !is_marked(s) {
-        return HeadRead::NoHead(refusal(2, 0, 0));
-    }
-    if table::word_at(s, 3) != 1 {
-        return HeadRead::NoHead(refusal(3, 0, 0));
-    }
-    let n = byte_at(s, 5);
-    let m = byte_at(s, 6);
-    let mode = byte_at(s, 7);
-    if !within(1, 16, n as u16) {
-        return HeadRead::NoHead(refusal(4, 0, 0));
-    }
-    if 16 < m {
-        return HeadRead::NoHead(refusal(5, 0, 0));
-    }
-    if 1 < mode {
-        return HeadRead::NoHead(refusal(6, 0, 0));
-    }
-    let h = Head {
-        n: n,
-        semaphores: m,
-        mode: mode,
+    let [_, _, _, high, low, n, semaphores, mode, rest @ ..] = bytes else {
+        return Err(Refusal::Short);
     };
-    HeadRead::Begun(h, 8)
-}
-
-// Step k of task i: 11 before 12.
-fn read_step(s: &[u8], at: usize, m: u8, i: u8, k: u8, nest: Nest) -> StepRead
-    requires at_in_bounds { at + 3 ≤ length s.now }
-    requires depth_bound { nest.depth ≤ 4 }
-    ensures { StepFrom m i k nest s.now at result }
-{
-    let kind = byte_at(s, at);
-    let value = table::word_at(s, at + 1);
-    if !is_known(m, kind, value) {
-        return StepRead::NoStep(refusal(11, i, k));
-    }
-    if is_misplaced(nest, kind, value) {
-        return StepRead::NoStep(refusal(12, i, k));
-    }
-    let next = at + 3;
-    StepRead::Placed(kind, value, next)
-}
-
-// The refusal that an answer is, for the branch of a let-else that does not bind it.
-fn step_refusal(a: StepRead) -> Refusal
-    ensures { result ≡ why (step_in a) }
-{
-    match a {
-        StepRead::Placed(_, _, _) => refusal(0, 0, 0),
-        StepRead::NoStep(x) => x,
-    }
-}
-
-// The steps of task i, one by one; at the end 12 for sections open.
-fn read_steps(s: &[u8], start: usize, m: u8, i: u8, e: Entry) -> TaskRead
-    requires lies { Lies s.now e }
-    requires start_value { start ≡ e.at }
-    ensures { entry_in result ≡ steps_there m i s.now e }
-{
-    let mut nest = Nest {
-        held: [0; 4],
-        depth: 0,
-        locked: false,
+    let [b'L', b'T', b'S', ..] = bytes else {
+        return Err(Refusal::Mark);
     };
-    let count = e.count;
-    let mut at = start;
-    let mut k: u8 = 0;
-    while k < count {
-        let a = read_step(s, at, m, i, k, nest);
-        let StepRead::Placed(kind, value, next) = a else {
-            return TaskRead::NoTask(step_refusal(a));
-        };
-        let more = nested(nest, kind, value);
-        nest = more;
-        at = next;
-        k += 1;
+    if u16::from_be_bytes([*high, *low]) != 1 {
+        return Err(Refusal::Version);
     }
-    if 0 < nest.depth {
-        return TaskRead::NoTask(refusal(12, i, count));
+    if !matches!(*n, 1..=16) {
+        return Err(Refusal::TaskCount);
     }
-    TaskRead::Opened(e, at)
+    if 16 < *semaphores {
+        return Err(Refusal::SemaphoreCount);
+    }
+    if 1 < *mode {
+        return Err(Refusal::Mode);
+    }
+    let head = Head {
+        n: *n,
+        semaphores: *semaphores,
+        mode: *mode,
+    };
+    Ok((head, rest))
 }
 
-// Where the steps of a task begin: behind its head, whose length the code has here alone.
-fn behind_head(at: usize, h: Head) -> usize
-    requires { at ≤ longest_sheet h }
-    ensures { (result ≡ at + head_length h) × (result < 65536) }
+// How many bytes a task's head has: the code has it here alone.
+#[tactic(auto, unfolding(rules::specs::Reading::head_length))]
+fn head_length(_head: Head) -> usize
+    ensures { result ≡ head_length _head }
 {
-    at + 5
+    5
 }
 
 // The head of task i: 7 for the head, 8, 9, 10, 7 for the steps.
-fn read_task_head(s: &[u8], at: usize, h: Head, i: u8) -> TaskRead
-    requires at_in_bounds { at ≤ length s.now }
-    requires at_bound { at ≤ longest_sheet h }
-    ensures { entry_in result ≡ entry_there h i s.now at }
+#[tactic(auto, using(crate::proofs::Turns::fields_in_turn), unfolding(crate::specs::Reader::with_rest, rules::specs::Reading::read_task_head, rules::specs::Reading::word, rules::specs::Reading::byte, rules::specs::Words::within))]
+fn read_task_head(head: Head, i: u8, bytes: &[u8]) -> Result<(TaskHead, &[u8]), Refusal>
+    ensures reads { reading (λ (own, rest). (own, rest.now)) result
+        ≡ with_rest (head_length head) bytes.now (read_task_head head i bytes.now) }
+    ensures long { IfOk result (λ (own, rest). 3 * own.count ≤ length rest.now) }
 {
-    let start = behind_head(at, h);
-    if s.len() < start {
-        return TaskRead::NoTask(refusal(7, i, 0));
-    }
-    let period = table::word_at(s, at);
-    if !within(1, 10000, period) {
-        return TaskRead::NoTask(refusal(8, i, 0));
-    }
-    let offset = table::word_at(s, at + 2);
-    if period <= offset {
-        return TaskRead::NoTask(refusal(9, i, 0));
-    }
-    let count = byte_at(s, at + 4);
-    if !within(1, 64, count as u16) {
-        return TaskRead::NoTask(refusal(10, i, 0));
-    }
-    if s.len() < start + 3 * (count as usize) {
-        return TaskRead::NoTask(refusal(7, i, 0));
-    }
-    let place = start as u16;
-    let e = Entry {
-        period: period,
-        offset: offset,
-        at: place,
-        count: count,
+    let Some(([period_high, period_low, offset_high, offset_low, count, ..], rest)) =
+        bytes.split_at_checked(head_length(head)) else {
+        return Err(Refusal::Cut(i));
     };
-    TaskRead::Opened(e, start)
+    let period = u16::from_be_bytes([*period_high, *period_low]);
+    if !matches!(period, 1..=10_000) {
+        return Err(Refusal::Period(i));
+    }
+    let offset = u16::from_be_bytes([*offset_high, *offset_low]);
+    if period <= offset {
+        return Err(Refusal::Offset(i));
+    }
+    if !matches!(*count, 1..=64) {
+        return Err(Refusal::StepCount(i));
+    }
+    if rest.len() < 3 * usize::from(*count) {
+        return Err(Refusal::Cut(i));
+    }
+    let own = TaskHead {
+        period,
+        offset,
+        count: *count,
+    };
+    Ok((own, rest))
+}
+
+// Step k of task i, behind those that left the nest so: 11 before 12.
+#[tactic(auto, using(crate::proofs::Turns::in_turn), unfolding(crate::specs::Reader::with_rest, rules::specs::Reading::read_step, rules::specs::Reading::misplaced, rules::specs::Reading::word, rules::specs::Reading::byte))]
+fn read_step<'a>(
+    m: u8,
+    i: u8,
+    k: u8,
+    nest: &Nest,
+    bytes: &'a [u8],
+) -> Result<(Step, &'a [u8]), Refusal>
+    requires { 3 ≤ length bytes.now }
+    ensures reads { (before : List Rules·Step) → length before ≡ k → nest.now ≡ open_behind before
+        → reading (λ (step, rest). (meant step, rest.now)) result
+        ≡ with_rest 3 bytes.now (read_step m i before bytes.now) }
+    ensures limits { IfOk result (λ (step, rest). StepLimits m (meant step)) }
+    ensures placed { IfOk result (λ (step, rest).
+        misplaced_in nest.now.held nest.now.locked (meant step) ≡ false) }
+{
+    // A cut in the steps, 7, is given before any of them is read.
+    let [kind, high, low, rest @ ..] = bytes else {
+        return Err(Refusal::Cut(i));
+    };
+    let value = u16::from_be_bytes([*high, *low]);
+    let Some(step) = known_step(m, *kind, value) else {
+        return Err(Refusal::UnknownStep(i, k));
+    };
+    if nest.is_misplaced(step) {
+        return Err(Refusal::Nesting(i, k));
+    }
+    Ok((step, rest))
+}
+
+// The steps of task i, one by one; at the end 12 for sections open.
+#[tactic(auto, using(crate::proofs::Steps::steps_in_turn), unfolding(crate::specs::Reader::steps_there))]
+fn read_steps(m: u8, i: u8, own: TaskHead, bytes: &[u8]) -> Result<(Task, &[u8]), Refusal>
+    requires semaphores { m ≤ 16 }
+    requires long { 3 * own.count ≤ length bytes.now }
+    ensures { reading (λ (task, rest). (task, rest.now)) result ≡ steps_there m i own bytes.now }
+{
+    let mut task = Task::new(own.period, own.offset);
+    let mut nest = Nest::new();
+    let mut rest = bytes;
+    for k in 0..own.count {
+        let (step, next) = read_step(m, i, k, &nest, rest)?;
+        nest.enter(step);
+        task.push(step);
+        rest = next;
+    }
+    if !nest.is_closed() {
+        return Err(Refusal::Nesting(i, own.count));
+    }
+    Ok((task, rest))
 }
 
 // Task i: its head, then its steps.
-fn read_task(s: &[u8], at: usize, h: Head, i: u8) -> TaskRead
-    requires at_in_bounds { at ≤ length s.now }
-    requires at_bound { at ≤ longest_sheet h }
-    ensures { TaskFrom h i s.now at result }
+#[tactic(auto, using(crate::proofs::Parts::parts_in_turn))]
+fn read_task(head: Head, i: u8, bytes: &[u8]) -> Result<(Task, &[u8]), Refusal>
+    requires { head.semaphores ≤ 16 }
+    ensures { reading (λ (task, rest). (task, rest.now)) result ≡ read_task head i bytes.now }
 {
-    let a = read_task_head(s, at, h, i);
-    let TaskRead::Opened(e, start) = a else {
-        return a;
-    };
-    read_steps(s, start, h.semaphores, i, e)
+    let (own, rest) = read_task_head(head, i, bytes)?;
+    read_steps(head.semaphores, i, own, rest)
 }
 
-fn task_refusal(a: TaskRead) -> Refusal
-    ensures { result ≡ why (entry_in a) }
+// The tasks behind the head, by rank.
+#[tactic(auto, using(crate::proofs::Tasks::tasks_in_turn))]
+fn read_tasks(head: Head, bytes: &[u8]) -> Result<(ArrayVec<Task, 16>, &[u8]), Refusal>
+    requires few { head.n ≤ 16 }
+    requires semaphores { head.semaphores ≤ 16 }
+    ensures { reading (λ (tasks, rest). (tasks.items, rest.now)) result
+        ≡ read_tasks head 0 head.n bytes.now }
 {
-    match a {
-        TaskRead::Opened(_, _) => refusal(0, 0, 0),
-        TaskRead::NoTask(x) => x,
+    let mut tasks = ArrayVec::new();
+    let mut rest = bytes;
+    for i in 0..head.n {
+        let (task, next) = read_task(head, i, rest)?;
+        tasks.push(task);
+        rest = next;
     }
+    Ok((tasks, rest))
 }
 
-fn no_entries() -> [Entry; 16]
-    ensures { result ≡ no_entries }
+// The sheet: its table, or why it is turned away. 13 comes last.
+#[tactic(auto, using(crate::proofs::Parts::parts_in_turn))]
+pub fn read_sheet(s: &[u8]) -> Result<Table, Refusal>
+    ensures { reading (λ t. t) result ≡ read_sheet s.now }
 {
-    let none = Entry {
-        period: 0,
-        offset: 0,
-        at: 0,
-        count: 0,
-    };
-    let entries = [none; 16];
-    entries
-}
-
-// A refusal leaves the table zero.
-fn refused(x: Refusal) -> Parsed
-    ensures { result ≡ turned_away x }
-{
-    let none = no_entries();
-    let table = Table {
-        n: 0,
-        semaphores: 0,
-        mode: 0,
-        entries: none,
-    };
-    Parsed {
-        refusal: x,
-        table: table,
+    let (head, bytes) = read_head(s)?;
+    let (tasks, rest) = read_tasks(head, bytes)?;
+    if !rest.is_empty() {
+        return Err(Refusal::BytesLeft);
     }
-}
-
-// The tasks behind the head, by rank; then 13.
-fn read_tasks(s: &[u8], start: usize, h: Head) -> Parsed
-    requires { head_there s.now ≡ read (h, start) }
-    ensures { ParsedFrom s.now result }
-{
-    let mut entries = no_entries();
-    let n = h.n;
-    let mut at = start;
-    let mut i: u8 = 0;
-    while i < n {
-        let a = read_task(s, at, h, i);
-        let TaskRead::Opened(e, next) = a else {
-            return refused(task_refusal(a));
-        };
-        let k = i as usize;
-        entries[k] = e;
-        at = next;
-        i += 1;
-    }
-    if at < s.len() {
-        return refused(refusal(13, 0, 0));
-    }
-    let x = refusal(0, 0, 0);
-    let table = Table {
-        n: n,
-        semaphores: h.semaphores,
-        mode: h.mode,
-        entries: entries,
-    };
-    Parsed {
-        refusal: x,
-        table: table,
-    }
-}
-
-fn head_refusal(a: HeadRead) -> Refusal
-    ensures { result ≡ why (head_in a) }
-{
-    match a {
-        HeadRead::Begun(_, _) => refusal(0, 0, 0),
-        HeadRead::NoHead(x) => x,
-    }
-}
-
-// The sheet: its table, or why it is turned away.
-pub fn read_sheet(s: &[u8]) -> Parsed
-    ensures { ParsedFrom s.now result }
-{
-    let a = read_head(s);
-    let HeadRead::Begun(h, start) = a else {
-        return refused(head_refusal(a));
-    };
-    read_tasks(s, start, h)
+    Ok(Table::new(head.mode, head.semaphores, tasks))
 }

@@ -1,16 +1,17 @@
 // THE PUBLIC FACE: every call, for any input, with no `requires`. The contract of each is one definition of
-// crates/rules/specs/Promises.antt, which the theorems cite too; a refused call gives its number, rank and step, and leaves
-// what was lent as it was.
-#![tactic(auto)]
+// crates/rules/specs/Promises.antt, said of the answer by its tie in Coded.antt, and the theorems cite both; a refused call gives
+// its refusal alone, and leaves what was lent as it was.
+#![tactic(auto, unfolding(crate::proofs::Open::answers))]
 
 ghost use Rattle.std.specs.Prelude.{◌≡◌};
-ghost use Rattle.rules.specs.Reading.{refusal};
-ghost use Rattle.simulator.specs.Refused.{not_ticked, not_run};
+ghost use Rattle.rules.specs.Reading.{read_sheet};
+ghost use Rattle.rules.specs.Answers.{read_tick, read_run};
 ghost use Rattle.rules.specs.Promises.{start_contract, check_contract, ceilings_contract, bounds_contract, laxities_contract, tick_contract, tick_in_place_contract, run_contract};
+ghost use Rattle.rules.specs.Coded.{reading, checked, ceilings_in, bounds_in, laxities_in, told_in, ticked_in, ran_in};
 
-use rules::{
-    Bound, Bounds, By, Ceilings, Checked, Laxities, Laxity, Ran, Refusal, State, Ticked, Told,
-};
+use engine::OneTick;
+use holders::Plan;
+use rules::{AfterTick, Bound, Head, Laxity, Refusal, Runner, State};
 
 // The record of a run at its start, for calls of `tick`.
 pub fn start() -> State
@@ -20,185 +21,110 @@ pub fn start() -> State
 }
 
 // The sheet check: how many tasks and semaphores, and the mode.
-pub fn check(s: &[u8]) -> Checked
-    ensures { check_contract s.now result }
+pub fn check(s: &[u8]) -> Result<Head, Refusal>
+    ensures { check_contract s.now (checked result) }
 {
-    let p = sheet::read_sheet(s);
-    let refusal = p.refusal;
-    let table = p.table;
-    Checked {
-        refusal: refusal,
-        tasks: table.n,
-        semaphores: table.semaphores,
-        mode: table.mode,
-    }
+    let table = sheet::read_sheet(s)?;
+    Ok(Head {
+        n: table.len() as u8,
+        semaphores: table.semaphores(),
+        mode: table.mode(),
+    })
+}
+
+// A sheet that is read, with its ceilings.
+fn sheet_plan(s: &[u8]) -> Result<Plan, Refusal>
+    ensures { reading (λ plan. plan) result ≡ read_sheet s.now }
+{
+    let table = sheet::read_sheet(s)?;
+    Ok(Plan::new(table))
 }
 
 // The ceiling of each semaphore.
-pub fn ceilings(s: &[u8]) -> Ceilings
-    ensures { ceilings_contract s.now result }
+pub fn ceilings(s: &[u8]) -> Result<[u8; 16], Refusal>
+    ensures { ceilings_contract s.now (ceilings_in result) }
 {
-    let p = sheet::read_sheet(s);
-    let refusal = p.refusal;
-    if refusal.number != 0 {
-        return Ceilings {
-            refusal: refusal,
-            ceilings: [0; 16],
-        };
-    }
-    let table = p.table;
-    let cs = holders::ceilings_of(s, table);
-    Ceilings {
-        refusal: refusal,
-        ceilings: cs,
-    }
+    let plan = sheet_plan(s)?;
+    Ok(plan.ceilings())
 }
 
 // The bound of each task, and what gives it.
-pub fn bounds(s: &[u8]) -> Bounds
-    ensures { bounds_contract s.now result }
+pub fn bounds(s: &[u8]) -> Result<[Bound; 16], Refusal>
+    ensures { bounds_contract s.now (bounds_in result) }
 {
-    let p = sheet::read_sheet(s);
-    let refusal = p.refusal;
-    if refusal.number != 0 {
-        let none = Bound {
-            ticks: 0,
-            by: By::Nothing,
-        };
-        return Bounds {
-            refusal: refusal,
-            bounds: [none; 16],
-        };
-    }
-    let table = p.table;
-    let cs = holders::ceilings_of(s, table);
-    let bs = bounds::bounds_of(s, table, cs);
-    Bounds {
-        refusal: refusal,
-        bounds: bs,
-    }
+    let plan = sheet_plan(s)?;
+    Ok(bounds::bounds_of(&plan))
 }
 
 // The laxity of each task.
-pub fn laxities(s: &[u8]) -> Laxities
-    ensures { laxities_contract s.now result }
+pub fn laxities(s: &[u8]) -> Result<[Laxity; 16], Refusal>
+    ensures { laxities_contract s.now (laxities_in result) }
 {
-    let p = sheet::read_sheet(s);
-    let refusal = p.refusal;
-    if refusal.number != 0 {
-        let none = Laxity {
-            below: false,
-            size: 0,
-            by: By::Nothing,
-        };
-        return Laxities {
-            refusal: refusal,
-            laxities: [none; 16],
-        };
-    }
-    let table = p.table;
-    let cs = holders::ceilings_of(s, table);
-    let ls = analysis::laxities_of(s, table, cs);
-    Laxities {
-        refusal: refusal,
-        laxities: ls,
-    }
+    let plan = sheet_plan(s)?;
+    Ok(analysis::laxities_of(&plan))
 }
 
-// A tick that is turned away: the state comes back as the one that came.
-fn not_ticked(refusal: Refusal, st: State) -> Ticked
-    ensures { result ≡ not_ticked refusal st }
+// The sheet of a call with a state: 16, then 17.
+fn tick_plan(s: &[u8], st: State) -> Result<Plan, Refusal>
+    ensures { reading (λ plan. plan) result ≡ read_tick s.now st }
 {
-    let told = Told {
-        refusal: refusal,
-        runner: 0,
-    };
-    Ticked {
-        told: told,
-        state: st,
-    }
-}
-
-fn refusal_of(number: u8) -> Refusal
-    ensures { result ≡ refusal number 0 0 }
-{
-    Refusal {
-        number: number,
-        rank: 0,
-        step: 0,
-    }
-}
-
-// One tick of a state that is handed over by value.
-pub fn tick(s: &[u8], st: State) -> Ticked
-    ensures { tick_contract s.now st result }
-{
-    let p = sheet::read_sheet(s);
-    let refusal = p.refusal;
-    if refusal.number != 0 {
-        return not_ticked(refusal, st);
-    }
-    let table = p.table;
-    if !possible::possible_state(s, table, st) {
-        return not_ticked(refusal_of(16), st);
+    let table = sheet::read_sheet(s)?;
+    if !possible::possible_state(&table, st) {
+        return Err(Refusal::Impossible);
     }
     if st.t == 60000 {
-        return not_ticked(refusal_of(17), st);
+        return Err(Refusal::Ended);
     }
-    let cs = holders::ceilings_of(s, table);
-    let a = engine::tick_of(s, table, cs, st);
-    let told = Told {
-        refusal: refusal,
-        runner: a.runner,
-    };
-    let next = a.state;
-    Ticked {
-        told: told,
-        state: next,
+    Ok(Plan::new(table))
+}
+
+// One tick of a state that is handed over by value; turned away, it comes back.
+#[tactic(auto, using(crate::proofs::Ticks::no_later, crate::proofs::Ticks::told_runner), unfolding(crate::proofs::Open::answers))]
+pub fn tick(s: &[u8], st: State) -> AfterTick
+    ensures { tick_contract s.now st (ticked_in result) }
+{
+    match tick_plan(s, st) {
+        Ok(plan) => {
+            let OneTick { runner, state } = engine::tick_of(&plan, st);
+            AfterTick {
+                told: Ok(runner),
+                state,
+            }
+        }
+        Err(refusal) => AfterTick {
+            told: Err(refusal),
+            state: st,
+        },
     }
 }
 
 // One tick of a record in the caller's memory.
-pub fn tick_in_place(s: &[u8], st: &mut State) -> Told
-    ensures { tick_in_place_contract s.now st.old result st.new }
+pub fn tick_in_place(s: &[u8], st: &mut State) -> Result<Runner, Refusal>
+    ensures { tick_in_place_contract s.now st.old (told_in result) st.new }
 {
-    let a = tick(s, *st);
-    *st = a.state;
-    a.told
+    let AfterTick { told, state } = tick(s, *st);
+    *st = state;
+    told
 }
 
-// A run that is turned away: its record is all zero.
-fn not_run(refusal: Refusal) -> Ran
-    ensures { result ≡ not_run refusal }
+// The sheet of a call with a horizon: 14, then 15.
+fn run_plan(s: &[u8], horizon: u16, trace: &[u8]) -> Result<Plan, Refusal>
+    ensures { reading (λ plan. plan) result ≡ read_run s.now horizon trace.now }
 {
-    let no_state = record::no_state();
-    Ran {
-        refusal: refusal,
-        state: no_state,
+    let table = sheet::read_sheet(s)?;
+    if 60000 < horizon {
+        return Err(Refusal::Horizon);
     }
+    if trace.len() < horizon as usize {
+        return Err(Refusal::Buffer);
+    }
+    Ok(Plan::new(table))
 }
 
 // A whole run from the start: one runner byte per tick into the first bytes of the trace; later bytes stay.
-pub fn run(s: &[u8], horizon: u16, trace: &mut [u8]) -> Ran
-    ensures { run_contract s.now horizon trace.old result trace.new }
+pub fn run(s: &[u8], horizon: u16, trace: &mut [u8]) -> Result<State, Refusal>
+    ensures { run_contract s.now horizon trace.old (ran_in result) trace.new }
 {
-    let p = sheet::read_sheet(s);
-    let refusal = p.refusal;
-    if refusal.number != 0 {
-        return not_run(refusal);
-    }
-    if 60000 < horizon {
-        return not_run(refusal_of(14));
-    }
-    let length = horizon as usize;
-    if trace.len() < length {
-        return not_run(refusal_of(15));
-    }
-    let table = p.table;
-    let cs = holders::ceilings_of(s, table);
-    let end = engine::run_of(s, table, cs, horizon, trace);
-    Ran {
-        refusal: refusal,
-        state: end,
-    }
+    let plan = run_plan(s, horizon, trace)?;
+    Ok(engine::run_of(&plan, horizon, trace))
 }

@@ -1,26 +1,23 @@
--- The sections that are open while steps are read, as the reader keeps them.
-use Rattle.std.specs.Prelude.{ℕ, zero, suc, ◌+◌, ◌-◌, ◌≡◌, List, [], ◌∷◌, true, false, length, get_or, set}
-use Rattle.rules.specs.Sheet.{Step, run, lock, unlock, held}
+-- The sections that are open behind some steps, as the reader keeps them while it goes.
+use Rattle.std.specs.Prelude.{ℕ, ◌≡◌, List, [], ◌∷◌, Bool, false}
+use Rattle.rules.specs.Words.{among}
+use Rattle.rules.specs.Sheet.{Step, is_lock, held_on_top, held}
 use Rattle.rules.specs.Reading.{after_lock}
-use Rattle.steps.specs.declared.Nest.{Nest}
 
--- The first d of some numbers, the newest first.
-unfoldable pub newest_first : (d : ℕ) → List ℕ → List ℕ
-newest_first zero xs = []
-newest_first (suc d) xs = get_or xs d 0 ∷ newest_first d xs
+-- What 12 looks at: the semaphores that are held, the newest first, and whether a lock stands right before.
+pub record Open : Type 0 where
+  pub held : List ℕ
+  pub locked : Bool
 
--- What the open sections have locked.
-unfoldable pub opened : Nest → List ℕ
-opened nest = newest_first nest.depth nest.held
+-- No two of them are the same.
+abbrev pub Distinct : List ℕ → Type 0
+Distinct [] = Unit {0}
+Distinct (s ∷ h) = (among s h ≡ false) × Distinct h
 
--- The nest is that of the k steps before: what they hold, and whether the last of them is a lock.
-pub record Nests (before : List Step) (k : ℕ) (nest : Nest) : Type 0 where
-  pub many : length before ≡ k
-  pub opens : held before ≡ opened nest
-  pub locks : after_lock before ≡ nest.locked
+-- Behind some steps,
+abbrev pub open_behind : List Step → Open
+open_behind before = record { held = held before; locked = after_lock before }
 
--- The nest behind a step that is well placed.
-unfoldable pub nest_behind : Nest → Step → Nest
-nest_behind nest (run n) = record { held = nest.held; depth = nest.depth; locked = false }
-nest_behind nest (lock s) = record { held = set nest.held nest.depth s; depth = nest.depth + 1; locked = true }
-nest_behind nest (unlock s) = record { held = nest.held; depth = nest.depth - 1; locked = false }
+-- and behind one step more.
+abbrev pub open_with : Open → Step → Open
+open_with nest x = record { held = held_on_top nest.held (x ∷ []); locked = is_lock x }

@@ -2,99 +2,92 @@
 // goes, in a nest: specs/Nesting.antt.
 #![tactic(auto)]
 
-ghost use Rattle.std.specs.Prelude.{◌≡◌, false, ◌≤◌};
-ghost use Rattle.rules.specs.Words.{within, among};
-ghost use Rattle.rules.specs.Reading.{step_of, known, misplaced_in};
-ghost use Rattle.steps.specs.Nesting.{opened, nest_behind};
+ghost use Rattle.std.specs.Prelude.{◌≡◌, ◌↔◌, [], ◌∷◌, true, false, not, length, IsSome, IfSome};
+ghost use Rattle.rules.specs.Words.{◌≤?◌};
+ghost use Rattle.rules.specs.Reading.{known, step_of, misplaced_in};
+ghost use Rattle.rules.specs.Laws.{StepLimits};
+ghost use Rattle.table.specs.Steps.{meant};
+ghost use Rattle.steps.specs.Nesting.{open_behind, open_with};
 
-// The sections that are open: their semaphores, how many, and whether a lock stands right before.
-#[derive(Clone, Copy)]
+use arrayvec::ArrayVec;
+use std::marker::Model;
+use table::Step;
+
+// 11: the step of a kind and a value, unless its kind is unknown or its value out of range.
+#[tactic(auto, using(std::proofs::lemmas::Bool::Decides::nat_tests), unfolding(rules::specs::Reading::known, rules::specs::Reading::step_of, rules::specs::Words::within))]
+pub fn known_step(m: u8, kind: u8, value: u16) -> Option<Step>
+    ensures variant { IsSome result ↔ (known m kind value ≡ true) }
+    ensures value { IfSome result (λ step. meant step ≡ step_of kind value) }
+    ensures limits { IfSome result (λ step. StepLimits m (meant step)) }
+{
+    match (kind, value) {
+        (1, 1..=1000) => Some(Step::Run(value)),
+        (2, s) if s < u16::from(m) => Some(Step::Lock(s)),
+        (3, s) if s < u16::from(m) => Some(Step::Unlock(s)),
+        _ => None,
+    }
+}
+
+// The sections that are open: their semaphores, the newest last, and whether a lock stands right before.
+#[derive(Drop)]
 pub struct Nest {
-    pub held: [u16; 4],
-    pub depth: usize,
-    pub locked: bool,
+    held: ArrayVec<u16, 4>,
+    locked: bool,
 }
 
-pub fn within(low: u16, high: u16, x: u16) -> bool
-    ensures { result ≡ within low high x }
-{
-    if x < low {
-        return false;
-    }
-    x <= high
+impl Model for Nest {
+    ghost use Rattle.std.specs.Prelude.{reverse};
+    ghost use Rattle.steps.specs.Nesting.{Open, Distinct};
+
+    ghost Value = { Open };
+
+    ghost view = { λ n. record { held = reverse n.held.items; locked = n.locked } };
+
+    ghost invariant = { λ n. Distinct (reverse n.held.items) };
 }
 
-// 11: a step's kind unknown or its value out of range.
-pub fn is_known(m: u8, kind: u8, value: u16) -> bool
-    ensures { result ≡ known m kind value }
-{
-    if kind == 1 {
-        return within(1, 1000, value);
-    }
-    if !within(2, 3, kind as u16) {
-        return false;
-    }
-    value < (m as u16)
-}
-
-// Is a semaphore locked by an open section?
-fn is_open(nest: Nest, x: u16) -> bool
-    requires { nest.depth ≤ 4 }
-    ensures { result ≡ among x (opened nest) }
-{
-    let mut k = nest.depth;
-    while 0 < k {
-        k -= 1;
-        if nest.held[k] == x {
-            return true;
+impl Nest {
+    // That of no steps.
+    #[tactic(auto, using(crate::proofs::Nesting::none_open))]
+    pub fn new() -> Nest
+        ensures { result ≡ open_behind [] }
+    {
+        Nest {
+            held: ArrayVec::new(),
+            locked: false,
         }
     }
-    false
-}
 
-// 12: lock of a semaphore already held, fifth level, unlock of any but the newest held, unlock directly after a lock.
-pub fn is_misplaced(nest: Nest, kind: u8, value: u16) -> bool
-    requires { nest.depth ≤ 4 }
-    ensures { result ≡ misplaced_in (opened nest) nest.locked (step_of kind value) }
-{
-    let d = nest.depth;
-    if kind == 1 {
-        return false;
-    }
-    if kind == 2 {
-        if 4 <= d {
-            return true;
+    // 12: lock of a semaphore already held, fifth level, unlock of any but the newest held, unlock directly after a lock.
+    pub fn is_misplaced(&self, step: Step) -> bool
+        ensures { result ≡ misplaced_in self.now.held self.now.locked (meant step) }
+    {
+        match step {
+            Step::Run(_) => false,
+            Step::Lock(s) => self.held.is_full() || self.held.contains(&s),
+            Step::Unlock(s) => self.held.last().copied() != Some(s) || self.locked,
         }
-        return is_open(nest, value);
     }
-    if d < 1 {
-        return true;
-    }
-    if nest.held[d - 1] != value {
-        return true;
-    }
-    nest.locked
-}
 
-// The nest behind a step that is well placed.
-pub fn nested(nest: Nest, kind: u8, value: u16) -> Nest
-    requires depth_bound { nest.depth ≤ 4 }
-    requires value_value { misplaced_in (opened nest) nest.locked (step_of kind value) ≡ false }
-    ensures { result ≡ nest_behind nest (step_of kind value) }
-{
-    let d = nest.depth;
-    let mut q = nest;
-    if kind == 1 {
-        q.locked = false;
-        return q;
+    // Behind a step that is well placed.
+    pub fn enter(&mut self, step: Step)
+        requires { misplaced_in self.old.held self.old.locked (meant step) ≡ false }
+        ensures { self.new ≡ open_with self.old (meant step) }
+    {
+        self.locked = step.is_lock();
+        match step {
+            Step::Run(_) => {}
+            Step::Lock(s) => self.held.push(s),
+            Step::Unlock(_) => {
+                self.held.pop();
+            }
+        }
     }
-    if kind == 2 {
-        q.held[d] = value;
-        q.depth = d + 1;
-        q.locked = true;
-        return q;
+
+    // No section is open.
+    pub fn is_closed(&self) -> bool
+        ensures { result ≡ not (1 ≤? length self.now.held) }
+    {
+        self.held.is_empty()
     }
-    q.depth = d - 1;
-    q.locked = false;
-    q
 }

@@ -1,58 +1,73 @@
--- Laws of what stands at a place: the kinds by their numbers, and a walk over steps that pass a test.
-use Prim.Native.Nat.{ℕ, suc}
-use mathlib.Core.Path.{◌≡◌, refl}
-use mathlib.Core.List.{List, [], ◌∷◌}
-use mathlib.Core.Bool.{Bool, ◌||◌}
-use lib.ListN.{take, drop}
+-- Laws of what stands at a place: the kinds, the ticks, and a walk over steps that pass a test.
+use Rattle.std.proofs.Common.{ℕ, zero, suc, ◌≡◌, refl, sym, ◌∙◌, List, [], ◌∷◌, Bool, true, false, ◌||◌, length, drop, take, map, Option, Some, None, slice_get, option_copied, ltb-true, ltb-false}
+use Rattle.std.proofs.lemmas.Option.{slice_get_past, slice_get_read}
+use Rattle.std.specs.Slice.{IsItemAt}
+use denote.Bor.{Bor}
 use lib.Seq.{take-nil}
-use Rattle.std.specs.Prelude.{if◌then◌else◌}
-use Rattle.rules.specs.Words.{◌=?◌, any, leading}
-use Rattle.rules.specs.Sheet.{Step, run, lock, unlock, is_run, is_lock, is_unlock}
+use Rattle.rules.specs.Words.{any}
+use Rattle.rules.specs.Sheet.{Step as Rules·Step, run, lock, unlock, is_run, is_lock, is_unlock}
 use Rattle.rules.specs.Choice.{full}
-use Rattle.table.specs.Table.{here}
-use Rattle.table.specs.Steps.{here_is, of_kind, number_of, number_here, ticks_of}
-use Rattle.table.specs.declared.Here.{Here}
-use Rattle.table.specs.declared.Kind.{Kind}
+use Rattle.table.specs.Steps.{meant, here, here_is}
+use Rattle.table.specs.declared.Step.{Step}
+use Rattle.table.specs.declared.Step.TheVariants.{Run, Lock, Unlock}
 
--- a step is of a kind where their numbers are the same
-pub same_number : (x : Here) (kind : Kind) → (number_here x =? number_of kind) ≡ here_is (of_kind kind) x
-unfolding here_is is_run is_lock is_unlock
-same_number (Here.Run n) Kind.Run = refl
-same_number (Here.Run n) Kind.Lock = refl
-same_number (Here.Run n) Kind.Unlock = refl
-same_number (Here.Lock s) Kind.Run = refl
-same_number (Here.Lock s) Kind.Lock = refl
-same_number (Here.Lock s) Kind.Unlock = refl
-same_number (Here.Unlock s) Kind.Run = refl
-same_number (Here.Unlock s) Kind.Lock = refl
-same_number (Here.Unlock s) Kind.Unlock = refl
-same_number Here.End Kind.Run = refl
-same_number Here.End Kind.Lock = refl
-same_number Here.End Kind.Unlock = refl
+-- a step is of one kind
+pub kind_is_run : (x : Step) → is_run (meant x) ≡ (elim x [ Run n ↦ true | Lock s ↦ false | Unlock s ↦ false ])
+unfolding is_run
+kind_is_run (Run n) = refl
+kind_is_run (Lock s) = refl
+kind_is_run (Unlock s) = refl
 
-pub of_kind_lem : (x : Here) (kind : Kind) (a b : ℕ) → a ≡ number_here x → b ≡ number_of kind → (a =? b) ≡ here_is (of_kind kind) x
-of_kind_lem x kind a b ea eb = rw (ea, eb) (same_number x kind)
+pub kind_is_lock : (x : Step) → is_lock (meant x) ≡ (elim x [ Run n ↦ false | Lock s ↦ true | Unlock s ↦ false ])
+unfolding is_lock
+kind_is_lock (Run n) = refl
+kind_is_lock (Lock s) = refl
+kind_is_lock (Unlock s) = refl
 
--- the ticks of the first of some steps are those left on coming to them
-pub ticks_here : (steps : List Step) → ticks_of (here steps) ≡ full steps
+pub kind_is_unlock : (x : Step) → is_unlock (meant x) ≡ (elim x [ Run n ↦ false | Lock s ↦ false | Unlock s ↦ true ])
+unfolding is_unlock
+kind_is_unlock (Run n) = refl
+kind_is_unlock (Lock s) = refl
+kind_is_unlock (Unlock s) = refl
+
+-- the ticks of a step are those left on coming to it
+pub ticks_meant : (x : Step) → full (meant x ∷ []) ≡ (elim x [ Run n ↦ n | Lock s ↦ 0 | Unlock s ↦ 0 ])
+unfolding full
+ticks_meant (Run n) = refl
+ticks_meant (Lock s) = refl
+ticks_meant (Unlock s) = refl
+
+-- a step as it stands in the table, in front of others
+pub here_meant : (x : Step) (steps : List Rules·Step) → here (meant x ∷ steps) ≡ Some x
+unfolding here
+here_meant (Run n) steps = refl
+here_meant (Lock s) steps = refl
+here_meant (Unlock s) steps = refl
+
+-- and at a position
+pub here_at : (steps : List Step) (p : ℕ) → slice_get steps p ≡ here (drop p (map meant steps))
+here_at [] zero = unfold here in refl
+here_at [] (suc p) = unfold here in refl
+here_at (x ∷ steps) zero = sym (here_meant x (map meant steps))
+here_at (x ∷ steps) (suc p) = here_at steps p
+
+pub full_here : (steps : List Rules·Step) → full steps ≡ (elim (here steps) [ Some x ↦ full (meant x ∷ []) | None ↦ 0 ])
 unfolding here full
-ticks_here [] = refl
-ticks_here (run n ∷ steps) = refl
-ticks_here (lock s ∷ steps) = refl
-ticks_here (unlock s ∷ steps) = refl
+full_here [] = refl
+full_here (run n ∷ steps) = refl
+full_here (lock s ∷ steps) = refl
+full_here (unlock s ∷ steps) = refl
 
 -- the first of some steps, and those behind it
-module _ (test : Step → Bool) where
-  pub any_first : (m : ℕ) (steps : List Step) → any test (take (suc m) steps) ≡ (here_is test (here steps) || any test (take m (drop 1 steps)))
+module _ (test : Rules·Step → Bool) where
+  pub any_first : (m : ℕ) (steps : List Rules·Step) → any test (take (suc m) steps) ≡ (here_is test (here steps) || any test (take m (drop 1 steps)))
   unfolding any here here_is
   any_first m [] = rw (take-nil m) refl
   any_first m (run n ∷ steps) = refl
   any_first m (lock s ∷ steps) = refl
   any_first m (unlock s ∷ steps) = refl
 
-  pub leading_first : (steps : List Step) → leading test steps ≡ (if here_is test (here steps) then suc (leading test (drop 1 steps)) else 0)
-  unfolding leading here here_is
-  leading_first [] = refl
-  leading_first (run n ∷ steps) = refl
-  leading_first (lock s ∷ steps) = refl
-  leading_first (unlock s ∷ steps) = refl
+-- what a look at a position finds
+pub copied_here : (steps : List Step) (p : ℕ) (r : Option (Bor Step)) → IsItemAt steps p r → option_copied r ≡ here (drop p (map meant steps))
+copied_here steps p None h = sym (slice_get_past steps p (ltb-false p (length steps) (sym h.0))) ∙ here_at steps p
+copied_here steps p (Some x) h = sym (slice_get_read steps (length steps) p x.now refl (ltb-true p (length steps) (sym h.0)) h.1) ∙ here_at steps p

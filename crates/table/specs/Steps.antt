@@ -1,44 +1,29 @@
--- What stands at a place of a task's steps: of which kind it is, how long it runs, which semaphore it names.
-use Rattle.std.specs.Prelude.{ℕ, Bool, false}
-use Rattle.rules.specs.Sheet.{Step, run, lock, unlock, is_run, is_lock, is_unlock}
-use Rattle.table.specs.declared.Here.{Here}
-use Rattle.table.specs.declared.Kind.{Kind}
+-- What a step in the table means, and what stands at a place of a task's steps.
+use Rattle.std.specs.Prelude.{ℕ, List, [], ◌∷◌, Bool, false, Option, Some, None}
+use Rattle.rules.specs.Sheet.{Step as Rules·Step, run, lock, unlock}
+use Rattle.table.specs.declared.Step.{Step}
+use Rattle.table.specs.declared.Step.TheVariants.{Run, Lock, Unlock}
+
+-- Document 01's step.
+abbrev pub meant : Step → Rules·Step
+meant (Run n) = run n
+meant (Lock s) = lock s
+meant (Unlock s) = unlock s
+
+-- The first of some steps.
+unfoldable pub here : List Rules·Step → Option Step
+here [] = None
+here (run n ∷ steps) = Some (Run n)
+here (lock s ∷ steps) = Some (Lock s)
+here (unlock s ∷ steps) = Some (Unlock s)
 
 -- A step stands there and passes a test.
-unfoldable pub here_is : (Step → Bool) → Here → Bool
-here_is test (Here.Run n) = test (run n)
-here_is test (Here.Lock s) = test (lock s)
-here_is test (Here.Unlock s) = test (unlock s)
-here_is test Here.End = false
+unfoldable pub here_is : (Rules·Step → Bool) → Option Step → Bool
+here_is test (Some x) = test (meant x)
+here_is test None = false
 
--- The test for a kind.
-abbrev pub of_kind : Kind → Step → Bool
-of_kind Kind.Run = is_run
-of_kind Kind.Lock = is_lock
-of_kind Kind.Unlock = is_unlock
-
--- Document 01's numbers of the kinds; 0 where no step stands.
-abbrev pub number_of : Kind → ℕ
-number_of Kind.Run = 1
-number_of Kind.Lock = 2
-number_of Kind.Unlock = 3
-
-abbrev pub number_here : Here → ℕ
-number_here (Here.Run n) = 1
-number_here (Here.Lock s) = 2
-number_here (Here.Unlock s) = 3
-number_here Here.End = 0
-
--- The ticks that it runs.
-abbrev pub ticks_of : Here → ℕ
-ticks_of (Here.Run n) = n
-ticks_of (Here.Lock s) = 0
-ticks_of (Here.Unlock s) = 0
-ticks_of Here.End = 0
-
--- The semaphore that it locks or unlocks; 16 where it does neither.
-abbrev pub semaphore_of : Here → ℕ
-semaphore_of (Here.Run n) = 16
-semaphore_of (Here.Lock s) = s
-semaphore_of (Here.Unlock s) = s
-semaphore_of Here.End = 16
+-- The semaphore that a step locks or unlocks.
+abbrev pub semaphore_in : Rules·Step → Option ℕ
+semaphore_in (run n) = None
+semaphore_in (lock s) = Some s
+semaphore_in (unlock s) = Some s

@@ -1,4 +1,4 @@
--- What the printing program prints, and what the functions that write it into a buffer do.
+-- What the printing program prints, and the room that it asks for.
 pub mod Text
-pub mod Buffer
+pub mod Room
 pub mod Laws

@@ -1,15 +1,14 @@
 -- THE PRINTED FORM: what the printing program writes for the bytes that it reads.
-use Rattle.std.specs.Prelude.{ℕ, length, take, drop, replicate, if◌then◌else◌}
-use mathlib.Core.List.{List, ◌++◌, flat_map}
+use Rattle.std.specs.Prelude.{ℕ, List, ◌++◌, length, take, drop, replicate, if◌then◌else◌}
+use Rattle.std.specs.List.{flat_map}
 use Rattle.rules.specs.Words.{◌<?◌, row}
-use Rattle.rules.specs.Reading.{refusal, word}
+use Rattle.rules.specs.Reading.{Numbers, refusal, word}
 use Rattle.rules.specs.Fields.{start}
 use Rattle.rules.specs.Record.{record_at}
 use Rattle.rules.specs.Run.{after, trace}
 use Rattle.rules.specs.Answers.{why, made, bound_of, laxity_of, read_run}
 use Rattle.rules.specs.declared.Counts.{Counts}
 use Rattle.rules.specs.declared.State.{State}
-use Rattle.rules.specs.declared.Refusal.{Refusal}
 use Rattle.rules.specs.declared.Bound.{Bound}
 use Rattle.rules.specs.declared.Laxity.{Laxity}
 use Rattle.words.specs.Words.{ascii, decimal, field, signed_decimal, given_by, tick_word}
@@ -49,7 +48,7 @@ unfoldable pub report : (n : ℕ) → State → (bounds : ℕ → Bound) (laxiti
 report n st bounds laxities runners = head_line st.t st.switches ++ task_lines n st bounds laxities ++ trace_line runners
 
 -- A refusal prints this alone.
-unfoldable pub refusal_line : Refusal → List ℕ
+unfoldable pub refusal_line : Numbers → List ℕ
 refusal_line x = field "refused " x.number ++ field " task " x.rank ++ field " step " x.step ++ ascii "\n"
 
 -- What a horizon and a sheet print. The trace has the horizon's length, so that 15 is never given.

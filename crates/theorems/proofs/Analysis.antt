@@ -8,12 +8,11 @@ use native.Mathlib.Omega.{arith}
 use lib.ListN.{drop}
 use lib.IntN.{pos, ◌-ℤ◌}
 use borrow.Author.Tests.{eq-eqb, lt-leb}
-use Rattle.std.specs.Prelude.{if◌then◌else◌}
+use Rattle.std.specs.Prelude.{Some, None, if◌then◌else◌}
 use Rattle.rules.specs.Words.{◌<?◌, ◌≤?◌, ◌=?◌, some, smallest, any}
 use Rattle.rules.specs.Sheet.{Step, run, lock, unlock, Task, Sheet, task_at, is_lock_of}
 use Rattle.rules.specs.Choice.{locks, ceiling}
-use Rattle.rules.specs.Bounds.{section_length, begins, steps_from, is_counted, counted_length, bound, gives, bound_by, cost, rounded_up, demand, slack, largest_of, laxity}
-use Rattle.rules.specs.declared.By.{By}
+use Rattle.rules.specs.Bounds.{section_length, begins, steps_from, is_counted, counted_length, bound, gives, bound_by, section, cost, rounded_up, demand, slack, largest_of, laxity}
 use Rattle.rules.proofs.Laws.{below, true_false, and_no, some_same, smallest_same, any_drop, largest_same, total_same}
 use Rattle.theorems.specs.Demand3.{OfAnalysis}
 use Rattle.theorems.proofs.Demand3.{Twin, flip, ceiling_same, ceiling_high, ceiling_locks, twin}
@@ -80,8 +79,8 @@ module _ {k : ℕ} {a b : Sheet} (τ : Twin k a b) (i : ℕ) (l : i < k) where
   unfolding bound_by
   by_same =
       let rank = smallest_same 16 255 _ _ (λ j u. some_same 64 _ _ (λ n v. gives_same j n)) in
-      ap (λ (r : ℕ). if r =? 255 then By.Nothing else By.Section r (smallest 64 255 (gives a i (bound a i) r))) rank
-      ∙ ap (λ (x : ℕ). if the_rank =? 255 then By.Nothing else By.Section the_rank x) (smallest_same 64 255 _ _ (λ n u. gives_same the_rank n))
+      ap (λ (r : ℕ). if r =? 255 then None else Some (section r (smallest 64 255 (gives a i (bound a i) r)))) rank
+      ∙ ap (λ (x : ℕ). if the_rank =? 255 then None else Some (section the_rank x)) (smallest_same 64 255 _ _ (λ n u. gives_same the_rank n))
     where
       the_rank : ℕ
       the_rank = smallest 16 255 λ j. some 64 (gives b i (bound b i) j)

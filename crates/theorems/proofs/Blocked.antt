@@ -10,7 +10,9 @@ use lib.ListN.{length, get_or-replicate}
 use Rattle.rules.specs.Sheet.{Task, Sheet, task_at}
 use Rattle.rules.specs.Fields.{blank, start}
 use Rattle.rules.specs.Record.{record_at}
-use Rattle.rules.specs.Choice.{Runner, job, runner}
+use Rattle.rules.specs.Choice.{runner}
+use Rattle.rules.specs.declared.Runner.{Runner}
+use Rattle.rules.specs.declared.Runner.TheVariants.{Rank}
 use Rattle.rules.specs.Tick.{released, after_releases, advanced, spent, closed, runner_of, tick}
 use Rattle.rules.specs.Run.{after}
 use Rattle.rules.specs.declared.Counts.{Counts}
@@ -76,7 +78,7 @@ advanced_tallied t task r p τ =
     })
 
 -- 6. a job that is blocked raises the total, its own count, and the most with it
-spent_tallied : (x : Runner) (t i : ℕ) (task : Task) (r : TaskRecord) → (x ≡ job i → r.job.pending ≡ true) → Tallied r → Tallied (spent x t i task r)
+spent_tallied : (x : Runner) (t i : ℕ) (task : Task) (r : TaskRecord) → (x ≡ Rank i → r.job.pending ≡ true) → Tallied r → Tallied (spent x t i task r)
 spent_tallied x t i task r may τ =
     let c = r.counts in
     let more = max c.most (r.job.present + 1) in

@@ -13,7 +13,9 @@ use Rattle.rules.specs.Words.{◌<?◌, ◌≤?◌, ◌=?◌, ◌⇒◌, among}
 use Rattle.rules.specs.Sheet.{Task, Sheet, no_task, task_at}
 use Rattle.rules.specs.Fields.{blank, start}
 use Rattle.rules.specs.Record.{record_at, carries, holds}
-use Rattle.rules.specs.Choice.{Runner, job, stuck, idle, locks, ceiling, goes, top_job, held_by_other, free_of_ceilings, may_go, in_the_way, next_candidate, walk, runner}
+use Rattle.rules.specs.Choice.{locks, ceiling, goes, top_job, held_by_other, free_of_ceilings, may_go, in_the_way, next_candidate, walk, runner}
+use Rattle.rules.specs.declared.Runner.{Runner}
+use Rattle.rules.specs.declared.Runner.TheVariants.{Rank, Stuck, Idle}
 use Rattle.rules.specs.Tick.{released, spent, after_releases, after_runner, closed, runner_of, tick}
 use Rattle.rules.specs.Run.{after}
 use Rattle.rules.specs.Answers.{told, record_after, ticked}
@@ -132,7 +134,7 @@ module _ {k : ℕ} {a b : Sheet} (τ : Twin k a b) (rs rs' : List TaskRecord) (s
   walk_same : (more : ℕ) (seen : List ℕ) (i : ℕ) → i < k → walk a rs more seen i ≡ walk b rs' more seen i
   unfolding walk
   walk_same zero seen i l = refl
-  walk_same (suc more) seen i l = ap (λ (x : Runner). if among i seen then stuck else x) (⊎_elim
+  walk_same (suc more) seen i l = ap (λ (x : Runner). if among i seen then Stuck else x) (⊎_elim
       (λ u. let v : may_go b rs' i ≡ true = sym (may_go_same i l) ∙ u in rw (u, v) refl)
       (λ u.
       let v : may_go b rs' i ≡ false = sym (may_go_same i l) ∙ u in
@@ -149,13 +151,13 @@ runner_same : {k : ℕ} {a b : Sheet} (τ : Twin k a b) (rs rs' : List TaskRecor
 unfolding runner
 runner_same {k} {a} {b} τ rs rs' same l =
     let e = top_same k rs rs' τ.few same l in
-    ap₂ (λ (n : ℕ) (x : Runner). if n =? 255 then idle else x) e (walk_same τ rs rs' same 16 [] (top_job rs) l ∙ ap (walk b rs' 16 []) e)
+    ap₂ (λ (n : ℕ) (x : Runner). if n =? 255 then Idle else x) e (walk_same τ rs rs' same 16 [] (top_job rs) l ∙ ap (walk b rs' 16 []) e)
 
 -- elsewhere none of the first k is pending, and the runner is none of them
 abbrev Low : ℕ → Runner → Type 0
-Low k (job j) = k ≤ j
-Low k stuck = Unit {0}
-Low k idle = Unit {0}
+Low k (Rank j) = k ≤ j
+Low k Stuck = Unit {0}
+Low k Idle = Unit {0}
 
 low_if : (k : ℕ) (c : Bool) (x y : Runner) → Low k x → Low k y → Low k (if c then x else y)
 low_if k true x y p q = p
@@ -195,9 +197,9 @@ module _ (k : ℕ) (a : Sheet) (rs : List TaskRecord) (few : k ≤ 16) (high : k
 -- and such a runner leaves their records as they are
 spent_low : (k : ℕ) (x : Runner) (t i : ℕ) (task : Task) (r : TaskRecord) → i < k → Low k x → r.job.pending ≡ false → spent x t i task r ≡ r
 unfolding spent
-spent_low k (job j) t i task r l h e = rw (ne_eqb i j (λ z. omega arith), and_no (i <? j) r.job.pending e) refl
-spent_low k stuck t i task r l h e = refl
-spent_low k idle t i task r l h e = refl
+spent_low k (Rank j) t i task r l h e = rw (ne_eqb i j (λ z. omega arith), and_no (i <? j) r.job.pending e) refl
+spent_low k Stuck t i task r l h e = refl
+spent_low k Idle t i task r l h e = refl
 
 -- one tick
 module _ {k : ℕ} {a b : Sheet} (τ : Twin k a b) (st st' : State) (α : Agree k st st') where

@@ -1,17 +1,18 @@
 -- A contract that is an equality with a definition leaves no freedom.
 use Prim.Native.Nat.{ℕ}
-use mathlib.Core.Path.{◌≡◌, refl, sym, ap₂, ◌∙◌, subst}
+use mathlib.Core.Path.{◌≡◌, refl, sym, ap, ap₂, ◌∙◌, subst}
 use mathlib.Core.Logic.{inl}
 use mathlib.Core.List.{List}
 use native.Mathlib.Omega.{arith}
 use Rattle.rules.specs.Reading.{Reading, read, refused, read_sheet}
-use Rattle.rules.specs.Answers.{why, made, check, ceilings, bounds, laxities, read_tick, ticked, told, record_after, read_run, ran, buffer_after}
+use Rattle.rules.specs.Answers.{why, made, check, ceilings, bounds, laxities, read_tick, ticked, told, record_after, read_run, ran, buffer_after, Ran, Told}
+use Rattle.rules.specs.Coded.{checked as checked_in, ceilings_in, bounds_in, laxities_in, told_in, ticked_in, ran_in}
+use Rattle.rules.specs.Laws.{LosesNothing}
 use Rattle.rules.specs.Fields.{start}
 use Rattle.rules.specs.declared.State.{State}
-use Rattle.rules.specs.declared.Ran.{Ran}
-use Rattle.rules.specs.declared.Told.{Told}
+use Rattle.rules.proofs.Coded.{tie_loses_nothing}
 use Rattle.theorems.specs.Refusals.{Refused, Numbered}
-use Rattle.theorems.specs.NoFreedom.{Call, start_call, check_call, ceilings_call, bounds_call, laxities_call, tick_call, tick_in_place_call, run_call, Settled, NoFreedom}
+use Rattle.theorems.specs.NoFreedom.{Call, start_call, check_call, ceilings_call, bounds_call, laxities_call, tick_call, tick_in_place_call, run_call, Settled, NoFreedom, InCode, lent, NoFreedomInCode}
 use Rattle.theorems.proofs.Refusals.{sheet_numbered, tick_numbered, run_numbered}
 
 -- the definition, that the contract permits it and nothing else, and what it says where it refuses
@@ -132,3 +133,22 @@ no_freedom =
     and settled tick_in_place_call ticks_in_place
     and settled run_call runs
     and tt
+
+-- and none in code, since the tie loses nothing
+in_code : {Answer : Type 0} (c : Call) (tie : Answer → c.Outcome) → Defined c → LosesNothing tie → InCode c tie
+in_code c tie δ kept input one other p q = kept one other ((settled c δ).no_freedom input (tie one) (tie other) p q)
+
+lent_kept : {A B Memory : Type 0} (tie : A → B) → LosesNothing tie → LosesNothing (lent {Memory = Memory} tie)
+lent_kept tie kept (one, after) (other, after') e = ap₂ (λ answer memory. (answer, memory)) (kept one other (ap (λ x. x.0) e)) (ap (λ x. x.1) e)
+
+pub no_freedom_in_code : NoFreedomInCode
+no_freedom_in_code = record {
+  of_start = in_code start_call _ starts (λ one other e. e);
+  of_check = in_code check_call checked_in checked tie_loses_nothing.of_check;
+  of_ceilings = in_code ceilings_call ceilings_in ceiled tie_loses_nothing.of_ceilings;
+  of_bounds = in_code bounds_call bounds_in bounded tie_loses_nothing.of_bounds;
+  of_laxities = in_code laxities_call laxities_in laxed tie_loses_nothing.of_laxities;
+  of_tick = in_code tick_call ticked_in ticks tie_loses_nothing.of_tick;
+  of_tick_in_place = in_code tick_in_place_call (lent told_in) ticks_in_place (lent_kept told_in tie_loses_nothing.of_told);
+  of_run = in_code run_call (lent ran_in) runs (lent_kept ran_in tie_loses_nothing.of_run);
+}

@@ -5,6 +5,7 @@ use mathlib.Core.List.{List, [], ◌∷◌}
 use mathlib.Core.Bool.{true}
 use native.Mathlib.Omega.{arith}
 use lib.ListN.{get_or}
+use lib.IntN.{nat_abs}
 use borrow.Author.Tests.{ltb-true}
 use Rattle.rules.specs.Words.{◌<?◌}
 use Rattle.rules.specs.Sheet.{Sheet}
@@ -12,13 +13,10 @@ use Rattle.rules.specs.Fields.{start}
 use Rattle.rules.specs.Record.{record_at}
 use Rattle.rules.specs.Tick.{closed, tick}
 use Rattle.rules.specs.Run.{after}
-use Rattle.rules.specs.Answers.{no_bound, no_laxity, check, ceilings, bounds, laxities, ticked, told, record_after, ran, buffer_after}
+use Rattle.rules.specs.Answers.{no_bound, no_laxity, check, ceilings, bounds, laxities, ticked, told, record_after, ran, buffer_after, Ticked, Told, Ran}
 use Rattle.rules.specs.Cases.{A, A3, D}
 use Rattle.rules.specs.declared.TaskRecord.{TaskRecord}
 use Rattle.rules.specs.declared.State.{State}
-use Rattle.rules.specs.declared.Ticked.{Ticked}
-use Rattle.rules.specs.declared.Told.{Told}
-use Rattle.rules.specs.declared.Ran.{Ran}
 use Rattle.rules.proofs.Open.{rules}
 use Rattle.theorems.specs.Refusals.{NotRefused}
 use Rattle.theorems.specs.Demand3.{Accepted}
@@ -79,7 +77,7 @@ refusing_and_fixed =
     and caught laxities_call (settled laxities_call laxed)
     (through laxities_call D.sheet (laxities D.sheet) refl refl)
     (through laxities_call A.sheet (laxities A.sheet) refl refl)
-    (λ r. (get_or r.laxities 0 no_laxity).size) refl
+    (λ r. nat_abs (get_or r.laxities 0 no_laxity).ticks) refl
     and caught tick_call (settled tick_call ticks)
     (through tick_call (D.sheet, start) (ticked D.sheet start) refl refl)
     (through tick_call (A.sheet, start) (ticked A.sheet start) refl refl)

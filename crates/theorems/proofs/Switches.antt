@@ -9,7 +9,8 @@ use lib.ListN.{length}
 use Rattle.std.specs.Prelude.{if◌then◌else◌}
 use Rattle.rules.specs.Sheet.{Sheet, run}
 use Rattle.rules.specs.Fields.{none_yet, same_job, start}
-use Rattle.rules.specs.Choice.{Runner, job, stuck, idle}
+use Rattle.rules.specs.declared.Runner.{Runner}
+use Rattle.rules.specs.declared.Runner.TheVariants.{Rank, Stuck, Idle}
 use Rattle.rules.specs.Tick.{after_releases, job_of, ran_last, closed, runner_of, tick}
 use Rattle.rules.specs.Run.{after}
 use Rattle.rules.specs.Laws.{All}
@@ -18,7 +19,7 @@ use Rattle.rules.specs.declared.LastJob.{LastJob}
 use Rattle.rules.proofs.Laws.{sure, below, true_false, if_cases}
 use Rattle.rules.proofs.Open.{rules}
 use Rattle.rules.proofs.Possible.{same_job_lem, job_same}
-use Rattle.rules.proofs.Runner.{runner_below}
+use Rattle.rules.proofs.MayRun.{runner_below}
 use Rattle.theorems.specs.Switches.{AtMostOne, PassedOver, Runs, HasRun, Different, AsManyAsJobs, NoMoreInD, SwitchesTell}
 
 -- one tick: what it counts, and the job that it remembers
@@ -41,7 +42,7 @@ module _ (sheet : Sheet) (st : State) where
   other_counts_one e = counts ∙ ap (λ (b : Bool). if b then st.switches else st.switches + 1) e
 
   -- where nobody runs it is the one before
-  stays : (runner_of sheet st ≡ stuck) ⊎ (runner_of sheet st ≡ idle) → ran ≡ st.last
+  stays : (runner_of sheet st ≡ Stuck) ⊎ (runner_of sheet st ≡ Idle) → ran ≡ st.last
   unfolding ran_last
   stays (inl e) = ap (λ (x : Runner). ran_last x (after_releases sheet st) st.last) e
   stays (inr e) = ap (λ (x : Runner). ran_last x (after_releases sheet st) st.last) e
@@ -52,13 +53,13 @@ module _ (sheet : Sheet) (st : State) where
   runs_last j ρ = ap (λ (x : Runner). ran_last x (after_releases sheet st) st.last) ρ.runner ∙ ρ.named
 
   -- somebody runs, or nobody does
-  who : ((j : LastJob) × Runs sheet st j) ⊎ ((runner_of sheet st ≡ stuck) ⊎ (runner_of sheet st ≡ idle))
+  who : ((j : LastJob) × Runs sheet st j) ⊎ ((runner_of sheet st ≡ Stuck) ⊎ (runner_of sheet st ≡ Idle))
   who = go (runner_of sheet st) refl
     where
-      go : (x : Runner) → runner_of sheet st ≡ x → ((j : LastJob) × Runs sheet st j) ⊎ ((runner_of sheet st ≡ stuck) ⊎ (runner_of sheet st ≡ idle))
-      go (job i) e = inl (job_of (after_releases sheet st) i, record { rank = i; runner = e; named = refl })
-      go stuck e = inr (inl e)
-      go idle e = inr (inr e)
+      go : (x : Runner) → runner_of sheet st ≡ x → ((j : LastJob) × Runs sheet st j) ⊎ ((runner_of sheet st ≡ Stuck) ⊎ (runner_of sheet st ≡ Idle))
+      go (Rank i) e = inl (job_of (after_releases sheet st) i, record { rank = i; runner = e; named = refl })
+      go Stuck e = inr (inl e)
+      go Idle e = inr (inr e)
 
   -- a rank is no 255
   not_none : Runs sheet st none_yet → ⊥

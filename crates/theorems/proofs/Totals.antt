@@ -10,23 +10,26 @@ use borrow.Author.Tests.{eqb-true, lt-ltb, le-ltb}
 use Rattle.std.specs.Prelude.{if◌then◌else◌}
 use Rattle.rules.specs.Words.{◌<?◌, ◌=?◌, total}
 use Rattle.rules.specs.Sheet.{Task, Sheet, task_at}
-use Rattle.rules.specs.Fields.{TicksRun, up, blank, same_job, start}
+use Rattle.rules.specs.Fields.{up, blank, same_job, start}
 use Rattle.rules.specs.Record.{record_at}
-use Rattle.rules.specs.Choice.{Runner, job, stuck, idle, runner_byte, runner}
+use Rattle.rules.specs.Choice.{runner_byte, runner}
+use Rattle.rules.specs.declared.Runner.{Runner}
+use Rattle.rules.specs.declared.Runner.TheVariants.{Rank, Stuck, Idle}
 use Rattle.rules.specs.Tick.{released, after_releases, advanced, was_blocked, spent, after_runner, job_of, ran_last, closed, runner_of, tick}
 use Rattle.rules.specs.Run.{after}
+use Rattle.rules.specs.declared.Count.TheVariants.{TicksRun}
 use Rattle.rules.specs.declared.TaskRecord.{TaskRecord}
 use Rattle.rules.specs.declared.LastJob.{LastJob}
 use Rattle.rules.specs.declared.State.{State}
 use Rattle.rules.proofs.Laws.{true_false, row_at, if_cases}
 use Rattle.rules.proofs.Possible.{job_same}
-use Rattle.rules.proofs.Runner.{runner_below}
+use Rattle.rules.proofs.MayRun.{runner_below}
 use Rattle.rules.proofs.Tick.{released_cases, advanced_cases}
 use Rattle.theorems.specs.Shams.{one, switch_now, blocked_now, blocked_of, TotalsOfRuns}
 
 -- a runner that is a job is a rank
 abbrev Ranked : Runner → Type 0
-Ranked x = (k : ℕ) → x ≡ job k → k < 16
+Ranked x = (k : ℕ) → x ≡ Rank k → k < 16
 
 -- rule 1 and rule 5 leave the count of ticks blocked
 abbrev blocked : TaskRecord → ℕ
@@ -52,9 +55,9 @@ job_blocked true false true false ran r l h e = sym (add-zero (blocked r))
 spent_blocked : (x : Runner) (t i : ℕ) (task : Task) (r : TaskRecord) → Ranked x
     → blocked (spent x t i task r) ≡ blocked r + one (runner_byte x <? 254 && i <? runner_byte x && r.job.pending)
 unfolding spent runner_byte
-spent_blocked stuck t i task r l = sym (add-zero (blocked r))
-spent_blocked idle t i task r l = sym (add-zero (blocked r))
-spent_blocked (job x) t i task r l =
+spent_blocked Stuck t i task r l = sym (add-zero (blocked r))
+spent_blocked Idle t i task r l = sym (add-zero (blocked r))
+spent_blocked (Rank x) t i task r l =
     job_blocked (x <? 254) (i =? x) (i <? x) r.job.pending (advanced t task r) r
     (lt-ltb x 254 (omega (arith, l x refl))) (λ u. let same = eqb-true i x u in le-ltb i x (omega arith)) (advanced_blocked t task r)
 
@@ -67,11 +70,11 @@ counted_switch : (x : Runner) (records : List TaskRecord) (last : LastJob) (n : 
     → (if same_job (ran_last x records last) last then n else n + 1)
     ≡ n + one (runner_byte x <? 254 && not (same_job (job_of records (runner_byte x)) last))
 unfolding ran_last runner_byte
-counted_switch (job i) records last n l =
+counted_switch (Rank i) records last n l =
     switch_or_not (same_job (job_of records i) last) n
     ∙ ap (λ (b : Bool). n + one (b && not (same_job (job_of records i) last))) (sym (lt-ltb i 254 (omega (arith, l i refl))))
-counted_switch stuck records last n l = rw (job_same last) (sym (add-zero n))
-counted_switch idle records last n l = rw (job_same last) (sym (add-zero n))
+counted_switch Stuck records last n l = rw (job_same last) (sym (add-zero n))
+counted_switch Idle records last n l = rw (job_same last) (sym (add-zero n))
 
 module _ (sheet : Sheet) (st : State) where
   releases_blocked : (i : ℕ) → i < 16 → blocked (record_at (after_releases sheet st) i) ≡ blocked_of st i

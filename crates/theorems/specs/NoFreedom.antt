@@ -2,18 +2,11 @@
 -- that contract leaves no freedom on any input, refused ones too.
 use Rattle.std.specs.Prelude.{ℕ, ◌≡◌, List, [], ◌∷◌, replicate}
 use Rattle.rules.specs.Fields.{no_state}
-use Rattle.rules.specs.Answers.{no_bound, no_laxity}
+use Rattle.rules.specs.Answers.{no_bound, no_laxity, Checked, Ceilings, Bounds, Laxities, Ticked, Told, Ran}
 use Rattle.rules.specs.Promises.{start_contract, check_contract, ceilings_contract, bounds_contract, laxities_contract, tick_contract, tick_in_place_contract, run_contract}
-use Rattle.rules.specs.Reading.{refusal}
+use Rattle.rules.specs.Coded.{checked, ceilings_in, bounds_in, laxities_in, told_in, ticked_in, ran_in}
+use Rattle.rules.specs.Reading.{refusal, Numbers}
 use Rattle.rules.specs.declared.State.{State}
-use Rattle.rules.specs.declared.Refusal.{Refusal}
-use Rattle.rules.specs.declared.Checked.{Checked}
-use Rattle.rules.specs.declared.Ceilings.{Ceilings}
-use Rattle.rules.specs.declared.Bounds.{Bounds}
-use Rattle.rules.specs.declared.Laxities.{Laxities}
-use Rattle.rules.specs.declared.Ticked.{Ticked}
-use Rattle.rules.specs.declared.Told.{Told}
-use Rattle.rules.specs.declared.Ran.{Ran}
 use Rattle.theorems.specs.Refusals.{Refused, Numbered}
 
 -- A public call: what goes in; what comes out, with lent memory as it is afterwards; what its contract permits, which is the
@@ -23,8 +16,8 @@ pub record Call : Type 1 where
   pub Input : Type 0
   pub Outcome : Type 0
   pub permits : Input → Outcome → Type 0
-  pub refusal : Outcome → Refusal
-  pub nothing_but : Input → Refusal → Outcome
+  pub refusal : Outcome → Numbers
+  pub nothing_but : Input → Numbers → Outcome
 
 -- check(sheet)
 abbrev pub check_call : Call
@@ -132,3 +125,22 @@ pub record Settled (c : Call) : Type 0 where
 
 abbrev pub NoFreedom : Type 0
 NoFreedom = Each Settled every_call
+
+-- IN CODE an answer is a value or a refusal, and each contract is said of the tie to document 01's fields (Coded.antt). It
+-- leaves no freedom there either: any two permitted answers are equal, and lent memory afterwards with them.
+abbrev pub InCode : {Answer : Type 0} (c : Call) → (Answer → c.Outcome) → Type 0
+InCode {Answer} c tie = (input : c.Input) (one other : Answer) → c.permits input (tie one) → c.permits input (tie other) → one ≡ other
+
+-- the answer by its tie, and lent memory as it is
+abbrev pub lent : {A B Memory : Type 0} → (A → B) → A × Memory → B × Memory
+lent tie (answer, after) = (tie answer, after)
+
+pub record NoFreedomInCode : Type 0 where
+  pub of_start : InCode start_call λ (r : State). r
+  pub of_check : InCode check_call checked
+  pub of_ceilings : InCode ceilings_call ceilings_in
+  pub of_bounds : InCode bounds_call bounds_in
+  pub of_laxities : InCode laxities_call laxities_in
+  pub of_tick : InCode tick_call ticked_in
+  pub of_tick_in_place : InCode tick_in_place_call (lent told_in)
+  pub of_run : InCode run_call (lent ran_in)

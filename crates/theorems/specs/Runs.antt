@@ -6,9 +6,8 @@ use Rattle.rules.specs.Fields.{start}
 use Rattle.rules.specs.Choice.{runner_byte}
 use Rattle.rules.specs.Tick.{runner_of, tick}
 use Rattle.rules.specs.Run.{after, trace}
-use Rattle.rules.specs.Answers.{ticked, told, record_after, ran, buffer_after}
+use Rattle.rules.specs.Answers.{ticked, told, record_after, ran, buffer_after, Ticked}
 use Rattle.rules.specs.declared.State.{State}
-use Rattle.rules.specs.declared.Ticked.{Ticked}
 use Rattle.theorems.specs.Refusals.{NotRefused}
 
 -- A run of h + 1 ticks is a run of h ticks and one more: in the record, and in the trace one runner byte more.

@@ -2,7 +2,7 @@
 use Rattle.std.specs.Prelude.{ℕ, ◌+◌, ◌≤◌, ◌<◌, ◌≡◌, ◌⊎◌, List, [], ◌∷◌, length}
 use Rattle.rules.specs.Sheet.{Sheet}
 use Rattle.rules.specs.Fields.{last_job, start}
-use Rattle.rules.specs.Choice.{job, stuck, idle}
+use Rattle.rules.specs.declared.Runner.TheVariants.{Rank, Stuck, Idle}
 use Rattle.rules.specs.Tick.{after_releases, job_of, runner_of, tick}
 use Rattle.rules.specs.Run.{after}
 use Rattle.rules.specs.Laws.{All}
@@ -17,13 +17,13 @@ AtMostOne = (sheet : Sheet) (st : State) → (tick sheet st).switches ≤ st.swi
 
 -- None is counted in an idle or stuck one, and the job that ran last is not forgotten.
 abbrev pub PassedOver : Type 0
-PassedOver = (sheet : Sheet) (st : State) → (runner_of sheet st ≡ stuck) ⊎ (runner_of sheet st ≡ idle)
+PassedOver = (sheet : Sheet) (st : State) → (runner_of sheet st ≡ Stuck) ⊎ (runner_of sheet st ≡ Idle)
     → ((tick sheet st).switches ≡ st.switches) × ((tick sheet st).last ≡ st.last)
 
 -- A job, by rank and release tick, runs in the tick of a state; it has run in the first ticks of a run from the start.
 pub record Runs (sheet : Sheet) (st : State) (j : LastJob) : Type 0 where
   pub rank : ℕ
-  pub runner : runner_of sheet st ≡ job rank
+  pub runner : runner_of sheet st ≡ Rank rank
   pub named : job_of (after_releases sheet st) rank ≡ j
 
 pub record HasRun (ticks : ℕ) (sheet : Sheet) (j : LastJob) : Type 0 where

@@ -1,212 +1,207 @@
-// What the test programs share: numbers and states read from bytes, and answers written as lines. workbench/README.md has
-// the formats.
+// What the test programs share: numbers and states taken off the front of bytes, and answers written as lines.
+// workbench/README.md has the formats.
 #![tactic(auto)]
 
-ghost use Rattle.std.specs.Prelude.{◌≡◌, ◌<◌, ◌≤◌, length};
+ghost use Rattle.std.specs.Prelude.{◌≡◌, ℕ, List, take, drop};
+ghost use Rattle.std.specs.Result.{ResultUnwrapsOrElse};
+ghost use Rattle.rules.specs.Reading.{byte, word};
 
-use rules::{By, Counts, Job, LastJob, Laxity, Refusal, State, TaskRecord};
+use rules::{Counts, Head, Job, LastJob, Refusal, Section, State, TaskRecord};
+use std::marker::Model;
+use std::{array, fmt};
 
-// So many bytes of an input are taken; no test asks for more.
-pub fn input_buffer() -> [u8; 65536]
-    ensures { 65536 ≡ length result }
-{
-    [0; 65536]
+// At most so many bytes of an input are taken; no test asks for more.
+pub const TAKEN: usize = 65536;
+
+// Bytes, seen as those that have not been taken yet. Behind their end all are zero.
+#[derive(Drop)]
+pub struct Bytes<'a> {
+    rest: &'a [u8],
 }
 
-// The byte at a place, 0 past the end.
-pub fn byte_at(s: &[u8], at: usize) -> u8 {
-    if at < s.len() {
-        return s[at];
+impl<'a> Model for Bytes<'a> {
+    ghost Value = { List ℕ };
+
+    ghost view = { λ bytes. bytes.rest.now };
+}
+
+impl<'a> Bytes<'a> {
+    pub fn new(bytes: &'a [u8]) -> Bytes<'a>
+        ensures { result ≡ bytes.now }
+    {
+        Bytes { rest: bytes }
     }
-    0
-}
 
-pub fn word_at(s: &[u8], at: usize) -> u16
-    requires { at < 100000 }
-{
-    let high = byte_at(s, at);
-    let low = byte_at(s, at + 1);
-    (high as u16) * 256 + (low as u16)
-}
-
-fn job_at(s: &[u8], at: usize) -> Job
-    requires { at < 90000 }
-{
-    let pending = byte_at(s, at) != 0;
-    let position = byte_at(s, at + 1);
-    let left = word_at(s, at + 2);
-    let release = word_at(s, at + 4);
-    let present = word_at(s, at + 6);
-    let mut j = record::standing(position, left, release, present);
-    j.pending = pending;
-    j
-}
-
-// The counts stand in the order of their row.
-fn counts_at(s: &[u8], at: usize) -> Counts
-    requires { at < 90000 }
-{
-    let mut row: [u16; 7] = [0; 7];
-    let mut k: usize = 0;
-    while k < 7 {
-        row[k] = word_at(s, at + 2 * k);
-        k += 1;
+    // So many bytes, fewer where the bytes end.
+    pub fn take(&mut self, count: u16) -> &'a [u8]
+        ensures taken { result.now ≡ take count self.old }
+        ensures rest { self.new ≡ drop count self.old }
+    {
+        let count = usize::from(count).min(self.rest.len());
+        let (taken, rest) = self.rest.split_at(count);
+        self.rest = rest;
+        taken
     }
-    record::counts_of(row)
-}
 
-fn record_at(s: &[u8], at: usize) -> TaskRecord
-    requires { at < 80000 }
-{
-    let job = job_at(s, at);
-    let counts = counts_at(s, at + 8);
-    TaskRecord {
-        job: job,
-        counts: counts,
+    #[tactic(auto, unfolding(rules::specs::Reading::byte))]
+    pub fn byte(&mut self) -> u8
+        ensures value { result ≡ byte self.old 0 }
+        ensures rest { self.new ≡ drop 1 self.old }
+    {
+        match self.take(1) {
+            [byte] => *byte,
+            _ => 0,
+        }
     }
-}
 
-fn last_at(s: &[u8], at: usize) -> LastJob
-    requires { at < 90000 }
-{
-    let rank = byte_at(s, at);
-    let release = word_at(s, at + 1);
-    record::last_job(rank, release)
-}
-
-// The state that the bytes from a place on stand for.
-pub fn state_at(s: &[u8], at: usize) -> State
-    requires { at < 70000 }
-{
-    let t = word_at(s, at);
-    let switches = word_at(s, at + 2);
-    let last = last_at(s, at + 4);
-    let first = record_at(s, at + 7);
-    let mut tasks = [first; 16];
-    let mut i: usize = 1;
-    while i < 16 {
-        let r = record_at(s, at + 7 + 22 * i);
-        tasks[i] = r;
-        i += 1;
+    // Big-endian.
+    #[tactic(auto, unfolding(rules::specs::Reading::byte, rules::specs::Reading::word))]
+    pub fn word(&mut self) -> u16
+        ensures value { result ≡ word self.old 0 }
+        ensures rest { self.new ≡ drop 2 self.old }
+    {
+        u16::from_be_bytes([self.byte(), self.byte()])
     }
-    State {
-        t: t,
-        switches: switches,
-        last: last,
-        tasks: tasks,
+
+    fn job(&mut self) -> Job {
+        Job {
+            pending: self.byte() != 0,
+            position: self.byte(),
+            left: self.word(),
+            release: self.word(),
+            present: self.word(),
+        }
     }
-}
 
-// The place that so many bytes behind another one lead to, cut where the bytes end.
-pub fn behind(s: &[u8], from: usize, count: usize) -> usize
-    requires { from ≤ length s.now }
-    ensures { (from ≤ result) × (result ≤ length s.now) }
-{
-    if s.len() - from < count {
-        return s.len();
+    // The counts stand in the order of their row.
+    fn counts(&mut self) -> Counts {
+        Counts::from(array::from_fn(|_| self.word()))
     }
-    from + count
-}
 
-// A write that fails is passed over, as in the printing program.
-pub fn write(rt: &impl Print, text: &[u8]) {
-    let _ = rt.write_all(text);
-}
-
-pub fn print(rt: &impl Print, name: &[u8], n: u64) {
-    write(rt, name);
-    let _ = rt.print(n);
-}
-
-pub fn end_line(rt: &impl Print) {
-    write(rt, b"\n");
-}
-
-// Nothing where the call was not turned away.
-pub fn print_refusal(rt: &impl Print, x: Refusal) {
-    if x.number == 0 {
-        return;
+    fn record(&mut self) -> TaskRecord {
+        TaskRecord {
+            job: self.job(),
+            counts: self.counts(),
+        }
     }
-    print(rt, b"refused ", x.number as u64);
-    print(rt, b" task ", x.rank as u64);
-    print(rt, b" step ", x.step as u64);
-    end_line(rt);
-}
 
-fn print_job(rt: &impl Print, j: Job) {
-    let mut pending = 0;
-    if j.pending {
-        pending = 1;
+    fn last(&mut self) -> LastJob {
+        LastJob {
+            rank: self.byte(),
+            release: self.word(),
+        }
     }
-    print(rt, b" pending ", pending);
-    print(rt, b" position ", j.position as u64);
-    print(rt, b" left ", j.left as u64);
-    print(rt, b" release ", j.release as u64);
-    print(rt, b" present ", j.present as u64);
-}
 
-fn print_counts(rt: &impl Print, c: Counts) {
-    print(rt, b" releases ", c.releases as u64);
-    print(rt, b" done ", c.completions as u64);
-    print(rt, b" missed ", c.misses as u64);
-    print(rt, b" ran ", c.ran as u64);
-    print(rt, b" blocked ", c.blocked as u64);
-    print(rt, b" worst ", c.worst as u64);
-    print(rt, b" most ", c.most as u64);
-}
-
-fn print_last(rt: &impl Print, j: LastJob) {
-    print(rt, b" last ", j.rank as u64);
-    print(rt, b" ", j.release as u64);
-}
-
-pub fn print_state(rt: &impl Print, st: State) {
-    print(rt, b"t ", st.t as u64);
-    print(rt, b" switches ", st.switches as u64);
-    print_last(rt, st.last);
-    end_line(rt);
-    let mut i = 0;
-    while i < 16 {
-        let r = st.tasks[i];
-        let j = r.job;
-        let c = r.counts;
-        print(rt, b"", i as u64);
-        print_job(rt, j);
-        print_counts(rt, c);
-        end_line(rt);
-        i += 1;
+    pub fn state(&mut self) -> State {
+        State {
+            t: self.word(),
+            switches: self.word(),
+            last: self.last(),
+            tasks: array::from_fn(|_| self.record()),
+        }
     }
 }
 
-pub fn print_laxity(rt: &impl Print, name: &[u8], x: Laxity) {
-    write(rt, name);
-    if x.below {
-        write(rt, b"-");
+// How the formats show a value.
+#[derive(Clone, Copy)]
+pub struct Shown<'a, T>(pub &'a T);
+
+impl fmt::Display for Shown<'_, Head> {
+    fn fmt<W: fmt::Write>(&self, f: &mut fmt::Formatter<W>) -> fmt::Result {
+        let Head {
+            n,
+            semaphores,
+            mode,
+        } = *self.0;
+        write!(f, "tasks {n} semaphores {semaphores} mode {mode}")
     }
-    print(rt, b"", x.size as u64);
+}
+
+impl fmt::Display for Shown<'_, Job> {
+    fn fmt<W: fmt::Write>(&self, f: &mut fmt::Formatter<W>) -> fmt::Result {
+        let Job {
+            pending,
+            position,
+            left,
+            release,
+            present,
+        } = *self.0;
+        let pending = u8::from(pending);
+        write!(
+            f,
+            "pending {pending} position {position} left {left} release {release} present {present}"
+        )
+    }
+}
+
+impl fmt::Display for Shown<'_, Counts> {
+    fn fmt<W: fmt::Write>(&self, f: &mut fmt::Formatter<W>) -> fmt::Result {
+        let Counts {
+            releases,
+            completions,
+            misses,
+            ran,
+            blocked,
+            worst,
+            most,
+        } = *self.0;
+        write!(
+            f,
+            "releases {releases} done {completions} missed {misses} ran {ran} blocked {blocked} worst {worst} most {most}"
+        )
+    }
+}
+
+impl fmt::Display for Shown<'_, State> {
+    fn fmt<W: fmt::Write>(&self, f: &mut fmt::Formatter<W>) -> fmt::Result {
+        let State {
+            t,
+            switches,
+            last: LastJob { rank, release },
+            tasks,
+        } = self.0;
+        writeln!(f, "t {t} switches {switches} last {rank} {release}")?;
+        for (i, TaskRecord { job, counts }) in tasks.iter().enumerate() {
+            let job = Shown(job);
+            let counts = Shown(counts);
+            writeln!(f, "{i} {job} {counts}")?;
+        }
+        Ok(())
+    }
 }
 
 // What gives a bound: rank and lock step, or nothing.
-pub fn print_by(rt: &impl Print, name: &[u8], by: By) {
-    write(rt, name);
-    let By::Section(rank, step) = by else {
-        write(rt, b"-");
-        return;
-    };
-    print(rt, b"", rank as u64);
-    print(rt, b"/", step as u64);
-}
-
-fn wide(x: u8) -> u64 {
-    x as u64
-}
-
-pub fn print_bytes(rt: &impl Print, name: &[u8], bytes: &[u8]) {
-    write(rt, name);
-    let mut i = 0;
-    while i < bytes.len() {
-        print(rt, b" ", wide(bytes[i]));
-        i += 1;
+impl fmt::Display for Shown<'_, Option<Section>> {
+    fn fmt<W: fmt::Write>(&self, f: &mut fmt::Formatter<W>) -> fmt::Result {
+        match *self.0 {
+            Some(Section { rank, step }) => write!(f, "{rank}/{step}"),
+            None => write!(f, "-"),
+        }
     }
-    end_line(rt);
+}
+
+// A line with a name and how each value is shown. A write that fails is passed over, as in the printing program.
+pub fn print_each<'a, T, D: fmt::Display + Drop, F: Fn(&'a T) -> D>(
+    rt: &impl Print,
+    name: &str,
+    values: &'a [T],
+    shown: F,
+)
+    requires { F.IsAlwaysCallable shown }
+{
+    let _ = print!(rt; "{name}");
+    for value in values {
+        let _ = print!(rt; " {}", shown(value));
+    }
+    let _ = println!(rt);
+}
+
+// What a call answers; where it is turned away, the refusal's line is printed, and the answer is all zero.
+pub fn answer_of<T: Default + Drop>(rt: &impl Print, told: Result<T, Refusal>) -> T
+    ensures { ResultUnwrapsOrElse told T.is_default result }
+{
+    if let Err(refusal) = &told {
+        let _ = println!(rt; "{refusal}");
+    }
+    told.unwrap_or_default()
 }

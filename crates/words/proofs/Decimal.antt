@@ -1,44 +1,52 @@
 -- Laws of decimal numbers.
 use Prim.Native.Nat.{ℕ, zero, suc, ◌+◌, ◌-◌, ◌*◌, ◌/◌, ◌%◌, ◌^◌, ◌≤◌, ◌<◌}
-use mathlib.Core.Path.{◌≡◌, refl, ap}
-use mathlib.Core.Logic.{⊎_elim}
+use mathlib.Core.Path.{◌≡◌}
 use mathlib.Core.List.{List, [], ◌∷◌, ◌++◌}
-use native.Mathlib.Nat.{pow-suc}
 use native.Mathlib.Omega.{arith}
-use lib.ListN.{length, get_or, length-append}
-use borrow.Author.Tests.{lt-ltb, le-ltb}
-use Rattle.rules.proofs.Laws.{below}
+use lib.ListN.{length, get_or}
+use Rattle.std.specs.Fmt as std
+use Rattle.std.proofs.Common.{rules}
+use Rattle.std.proofs.lemmas.Fmt.{AppendsLastDigit, decimal_from_appends, length-decimal-le, length-decimal-le_succ}
+use Rattle.std.proofs.lemmas.Grind.{common_steps}
+use mir.Val.{SFits}
+use mir.Syntax.{w64}
+use Rattle.std.specs.Prelude.{ℤ, pos, negsuc, Option}
 use Rattle.rules.specs.Laws.{All}
-use Rattle.words.specs.Words.{digit, digits, decimal}
+use Rattle.rules.specs.declared.Laxity.{Laxity}
+use Rattle.rules.specs.declared.Section.{Section}
+use Rattle.words.specs.Words.{digit, digits, decimal, signed_decimal}
 use Rattle.words.specs.Laws.{value, InDecimal, DecimalIsDecimal}
 
--- more room for digits than a number needs gives no more of them
-digits_enough : (j k n : ℕ) → n < j → n < k → digits j n ≡ digits k n
+-- the digits are those that the library writes,
+appends : AppendsLastDigit digits
 unfolding digits
-digits_enough zero k n p q = absurd (omega arith)
-digits_enough (suc j) zero n p q = absurd (omega arith)
-digits_enough (suc j) (suc k) n p q = ⊎_elim
-    (λ (u : n < 10). rw (lt-ltb n 10 u) refl)
-    (λ (u : 10 ≤ n). rw (le-ltb n 10 u) (ap (λ (l : List ℕ). l ++ (digit n ∷ [])) (digits_enough j k (n / 10) (omega arith) (omega arith))))
-    (below n 10)
+appends = search rules
 
-pub decimal_one : (n : ℕ) → n < 10 → decimal n ≡ digit n ∷ []
-unfolding decimal digits
-decimal_one n h = rw (lt-ltb n 10 h) refl
+pub decimal_is_written : (n : ℕ) → n < 2 ^ 64 → decimal n ≡ std.decimal n
+unfolding decimal
+decimal_is_written n h = decimal_from_appends digits appends (suc n) n h (omega (arith, length-decimal-le_succ n h))
 
-pub decimal_more : (n : ℕ) → 10 ≤ n → decimal n ≡ decimal (n / 10) ++ (digit n ∷ [])
-unfolding decimal digits
-decimal_more n h = rw (le-ltb n 10 h) (ap (λ (l : List ℕ). l ++ (digit n ∷ [])) (digits_enough n (suc (n / 10)) (n / 10) (omega arith) (omega arith)))
+-- and those of a byte are three at most
+pub byte_few : (n : ℕ) → n < 2 ^ 8 → length (decimal n) ≤ 3
+byte_few n h = rw (decimal_is_written n (omega arith)) (length-decimal-le 3 n (omega arith) (omega arith) (omega arith))
 
--- a number below 10 to the k + 1 has at most k + 1 digits
-pub decimal_few : (k n : ℕ) → n < 10 ^ suc k → length (decimal n) ≤ suc k
-decimal_few zero n h = rw (decimal_one n h) (omega arith)
-decimal_few (suc k) n h = ⊎_elim
-    (λ (u : n < 10). rw (decimal_one n u) (omega arith))
-    (λ (u : 10 ≤ n).
-    let more = decimal_few k (n / 10) (omega (arith, pow-suc 10 (suc k))) in
-    rw (decimal_more n u) (omega (arith, length-append (decimal (n / 10)) (digit n ∷ []))))
-    (below n 10)
+-- those of 32 bits ten, those of a word five, and a laxity's with its sign twenty
+pub number_few : (n : ℕ) → n < 2 ^ 32 → length (decimal n) ≤ 10
+number_few n h = rw (decimal_is_written n (omega arith)) (length-decimal-le 10 n (omega arith) (omega arith) (omega arith))
+
+pub word_few : (n : ℕ) → n < 2 ^ 16 → length (decimal n) ≤ 5
+word_few n h = rw (decimal_is_written n (omega arith)) (length-decimal-le 5 n (omega arith) (omega arith) (omega arith))
+
+long_few : (n : ℕ) → n ≤ 2 ^ 63 → length (decimal n) ≤ 19
+long_few n h = rw (decimal_is_written n (omega arith)) (length-decimal-le 19 n (omega arith) (omega arith) (omega arith))
+
+signed_few : (z : ℤ) (by : Option Section) → SFits w64 z → length (signed_decimal (record { ticks = z; by = by })) ≤ 20
+unfolding signed_decimal
+signed_few (pos n) by f = omega (arith, long_few n (omega (arith, f.sfits)))
+signed_few (negsuc n) by f = omega (arith, long_few (suc n) (omega (arith, f.sfits)))
+
+pub laxity_few : (x : Laxity) → SFits w64 x.ticks → length (signed_decimal x) ≤ 20
+laxity_few x f = signed_few x.ticks x.by f
 
 -- the digits read back
 value_more : (b : ℕ) (xs : List ℕ) (n : ℕ) → value b (xs ++ (digit n ∷ [])) ≡ value b xs * 10 + n % 10
@@ -51,26 +59,14 @@ all_more P [] x h p = (p, tt)
 all_more P (y ∷ xs) x h p = (h.0, all_more P xs x h.1 p)
 
 leading_more : (xs : List ℕ) (x : ℕ) → 49 ≤ get_or xs 0 0 → 49 ≤ get_or (xs ++ (x ∷ [])) 0 0
-leading_more [] x h = absurd (omega arith)
-leading_more (y ∷ xs) x h = h
+leading_more xs x h = grind (arith, common_steps)
 
 digits_right : (most n : ℕ) → n < most → InDecimal n (digits most n)
 unfolding digits value
 digits_right zero n l = absurd (omega arith)
-digits_right (suc most) n l = ⊎_elim
-    (λ (u : n < 10). rw (lt-ltb n 10 u) (record {
-      digits = ((omega arith, omega arith), tt);
-      reads_back = omega arith;
-      leading = λ p. omega arith;
-    }))
-    (λ (u : 10 ≤ n).
-    let h = digits_right most (n / 10) (omega arith) in
-    rw (le-ltb n 10 u) (record {
-      digits = all_more _ (digits most (n / 10)) (digit n) h.digits (omega arith, omega arith);
-      reads_back = omega (arith, value_more 0 (digits most (n / 10)) n, h.reads_back);
-      leading = λ p. leading_more (digits most (n / 10)) (digit n) (h.leading (omega arith));
-    }))
-    (below n 10)
+digits_right (suc most) n l =
+    let h = λ (p : n / 10 < most). digits_right most (n / 10) p in
+    grind (arith, common_steps, all_more, value_more, leading_more)
 
 pub decimal_is_decimal : DecimalIsDecimal
 unfolding decimal

@@ -1,8 +1,8 @@
 -- WHAT FOLLOWS: laws that make the words trustworthy. Each is proved in proofs/.
-use Rattle.std.specs.Prelude.{ℕ, ◌+◌, ◌-◌, ◌*◌, ◌≤◌, ◌≡◌, true, List, [], ◌∷◌, get_or}
+use Rattle.std.specs.Prelude.{ℕ, ◌+◌, ◌-◌, ◌*◌, ◌≤◌, ◌≡◌, List, [], ◌∷◌, get_or, Option, negsuc}
 use Prim.Native.Char.{code}
 use Rattle.rules.specs.Laws.{All}
-use Rattle.rules.specs.declared.By.{By}
+use Rattle.rules.specs.declared.Section.{Section}
 use Rattle.words.specs.Words.{ascii, decimal, signed_decimal}
 
 -- The number that digits give, read from the left, behind one that was read before.
@@ -24,4 +24,4 @@ abbrev pub PrintedTen : Type 0
 PrintedTen = decimal 10 ≡ ascii "10"
 
 abbrev pub PrintedMinusOne : Type 0
-PrintedMinusOne = (by : By) → signed_decimal (record { below = true; size = 1; by = by }) ≡ ascii "-1"
+PrintedMinusOne = (by : Option Section) → signed_decimal (record { ticks = negsuc 0; by = by }) ≡ ascii "-1"

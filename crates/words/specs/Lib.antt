@@ -1,4 +1,4 @@
--- The words that the printing program prints, and what the functions that write them into a buffer do.
+-- The words that the printing program prints, and the room that they ask for.
 pub mod Words
-pub mod Buffer
+pub mod Room
 pub mod Laws

@@ -1,9 +1,9 @@
 -- THE WORDS of the printed form: texts, numbers, fields, laxities, what gives a bound, and ticks.
-use Rattle.std.specs.Prelude.{ℕ, zero, suc, ◌+◌, ◌/◌, ◌%◌, List, [], ◌∷◌, ◌++◌, if◌then◌else◌}
+use Rattle.std.specs.Prelude.{ℕ, zero, suc, ◌+◌, ◌/◌, ◌%◌, List, [], ◌∷◌, ◌++◌, if◌then◌else◌, Option, Some, None, pos, negsuc}
 use Prim.Native.Char.{code}
 use Prim.Native.String.{String, [] as none, ◌∷◌ as ◌then◌}
 use Rattle.rules.specs.Words.{◌<?◌, ◌=?◌}
-use Rattle.rules.specs.declared.By.{By}
+use Rattle.rules.specs.declared.Section.{Section}
 use Rattle.rules.specs.declared.Laxity.{Laxity}
 
 -- A quoted text as its bytes.
@@ -34,12 +34,12 @@ field name n = numbered (ascii name) n
 
 -- A laxity may be negative.
 unfoldable pub signed_decimal : Laxity → List ℕ
-signed_decimal x = (if x.below then ascii "-" else []) ++ decimal x.size
+signed_decimal x = elim x.ticks [ pos n ↦ decimal n | negsuc n ↦ ascii "-" ++ decimal (suc n) ]
 
 -- What gives a bound: a section, by rank and lock step, or nothing.
-unfoldable pub given_by : By → List ℕ
-given_by (By.Section rank step) = field " by " rank ++ field "/" step
-given_by By.Nothing = ascii " by -"
+unfoldable pub given_by : Option Section → List ℕ
+given_by (Some section) = field " by " section.rank ++ field "/" section.step
+given_by None = ascii " by -"
 
 -- A tick's word in the trace line, behind a space: the runner's rank, "-" for idle, "!" for 254.
 unfoldable pub tick_word : (x : ℕ) → List ℕ

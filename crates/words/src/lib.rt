@@ -1,103 +1,96 @@
-// The words of what the printing program prints: numbers, fields, laxities, what gives a bound, and ticks, put into a buffer
-// that the caller lends. Each function puts a text at a cursor and answers the cursor behind it; what the texts are stands in
-// specs/Words.antt, and the room that they ask for in specs/Buffer.antt.
+// The words of what the printing program prints: numbers, fields, laxities, what gives a bound, and ticks. Each function puts a
+// text behind what stands in `out`; what the texts are stands in specs/Words.antt, and the room that they ask for in
+// specs/Room.antt.
 #![tactic(auto)]
 
-ghost use Rattle.std.specs.Prelude.{◌+◌, ◌≤◌, ◌<◌, ◌≡◌, [], ◌∷◌, length};
-ghost use Rattle.words.specs.Buffer.{Put, word_room, number_room, field_room, laxity_room, given_by_room, tick_room};
-ghost use Rattle.words.specs.Words.{digit as Words·digit};
+ghost use Rattle.std.specs.Prelude.{◌+◌, ◌≤◌, ◌≡◌, ◌++◌, length};
+ghost use Rattle.arrayvec.specs.ArrayVec.{array_vec_len};
+ghost use Rattle.words.specs.Room.{word_room, number_room, field_room, given_by_room, tick_room};
 ghost use Rattle.words.specs.Words.{decimal, numbered, signed_decimal, given_by, tick_word};
 
-use rules::{By, Laxity};
+use arrayvec::ArrayVec;
+use rules::{Laxity, Section};
 
-pub fn put_byte(out: &mut [u8], at: usize, b: u8) -> usize
-    requires { at < length out.old }
-    ensures { Put out.old at (b ∷ []) out.new result }
+pub fn put_text<const CAP: usize>(out: &mut ArrayVec<u8, CAP>, text: &[u8])
+    requires { array_vec_len out.old + length text.now ≤ CAP }
+    ensures { out.new.items ≡ out.old.items ++ text.now }
 {
-    out[at] = b;
-    at + 1
+    out.try_extend_from_slice(text).unwrap();
 }
 
-pub fn put_text(out: &mut [u8], at: usize, text: &[u8]) -> usize
-    requires { at + length text.now ≤ length out.old }
-    ensures { Put out.old at text.now out.new result }
+// The digits of a number.
+#[tactic(auto, using(crate::proofs::Decimal::decimal_is_written))]
+fn put_digits<const CAP: usize>(out: &mut ArrayVec<u8, CAP>, n: u64)
+    requires { array_vec_len out.old + length (decimal n) ≤ CAP }
+    ensures put { out.new.items ≡ out.old.items ++ decimal n }
+    ensures exact { array_vec_len out.new ≡ array_vec_len out.old + length (decimal n) }
 {
-    let mut next = at;
-    let mut i = 0;
-    while i < text.len() {
-        next = put_byte(out, next, text[i]);
-        i += 1;
-    }
-    next
-}
-
-fn digit(n: u32) -> u8
-    ensures { result ≡ Words·digit n }
-{
-    b'0' + (n % 10) as u8
+    let mut digits = itoa::Buffer::new();
+    put_text(out, digits.format(n).as_bytes());
 }
 
 // A number of 32 bits has at most ten digits.
-pub fn put_number(out: &mut [u8], at: usize, n: u32) -> usize
-    requires { at + number_room ≤ length out.old }
-    ensures put { Put out.old at (decimal n) out.new result }
-    ensures upper_bound { result ≤ at + number_room }
+#[tactic(auto, using(crate::proofs::Decimal::number_few))]
+pub fn put_number<const CAP: usize>(out: &mut ArrayVec<u8, CAP>, n: u32)
+    requires { array_vec_len out.old + number_room ≤ CAP }
+    ensures put { out.new.items ≡ out.old.items ++ decimal n }
+    ensures upper_bound { array_vec_len out.new ≤ array_vec_len out.old + number_room }
 {
-    if n < 10 {
-        return put_byte(out, at, digit(n));
-    }
-    let next = put_number(out, at, n / 10);
-    put_byte(out, next, digit(n))
+    put_digits(out, n.into());
 }
 
-// A word and the number behind it.
-pub fn put_field(out: &mut [u8], at: usize, name: &[u8], n: u16) -> usize
+// A word and the number behind it, of at most five digits.
+#[tactic(auto, using(crate::proofs::Decimal::word_few), unfolding(crate::specs::Words::numbered))]
+pub fn put_field<const CAP: usize>(out: &mut ArrayVec<u8, CAP>, name: &[u8], n: u16)
     requires name_len_bound { length name.now ≤ word_room }
-    requires field_room_in_bounds { at + field_room ≤ length out.old }
-    ensures put { Put out.old at (numbered name.now n) out.new result }
-    ensures upper_bound { result ≤ at + field_room }
+    requires field_room_in_bounds { array_vec_len out.old + field_room ≤ CAP }
+    ensures put { out.new.items ≡ out.old.items ++ numbered name.now n }
+    ensures upper_bound { array_vec_len out.new ≤ array_vec_len out.old + field_room }
+    ensures few { array_vec_len out.new ≤ array_vec_len out.old + length name.now + 5 }
 {
-    let next = put_text(out, at, name);
-    put_number(out, next, n as u32)
+    put_text(out, name);
+    put_digits(out, n.into());
 }
 
-pub fn put_laxity(out: &mut [u8], at: usize, x: Laxity) -> usize
-    requires { at + laxity_room ≤ length out.old }
-    ensures put { Put out.old at (signed_decimal x) out.new result }
-    ensures upper_bound { result ≤ at + laxity_room }
+// The minus is put by hand, and not by itoa's text of a signed number: the edit minus_as_space is of this line.
+#[tactic(auto, unfolding(crate::specs::Words::signed_decimal))]
+pub fn put_laxity<const CAP: usize>(out: &mut ArrayVec<u8, CAP>, x: Laxity)
+    requires { array_vec_len out.old + length (signed_decimal x) ≤ CAP }
+    ensures put { out.new.items ≡ out.old.items ++ signed_decimal x }
+    ensures exact { array_vec_len out.new ≡ array_vec_len out.old + length (signed_decimal x) }
 {
-    if x.below {
-        let next = put_byte(out, at, b'-');
-        return put_number(out, next, x.size);
+    if x.ticks < 0 {
+        out.push(b'-');
     }
-    put_number(out, at, x.size)
+    put_digits(out, x.ticks.unsigned_abs());
 }
 
 // What gives a bound: a section, by rank and lock step, or nothing.
-pub fn put_given_by(out: &mut [u8], at: usize, by: By) -> usize
-    requires { at + given_by_room ≤ length out.old }
-    ensures put { Put out.old at (given_by by) out.new result }
-    ensures upper_bound { result ≤ at + given_by_room }
+#[tactic(auto, unfolding(crate::specs::Words::given_by))]
+pub fn put_given_by<const CAP: usize>(out: &mut ArrayVec<u8, CAP>, by: Option<Section>)
+    requires { array_vec_len out.old + given_by_room ≤ CAP }
+    ensures put { out.new.items ≡ out.old.items ++ given_by by }
+    ensures upper_bound { array_vec_len out.new ≤ array_vec_len out.old + given_by_room }
 {
-    let By::Section(rank, step) = by else {
-        return put_text(out, at, b" by -");
+    let Some(Section { rank, step }) = by else {
+        return put_text(out, b" by -");
     };
-    let next = put_field(out, at, b" by ", rank as u16);
-    put_field(out, next, b"/", step as u16)
+    put_field(out, b" by ", rank.into());
+    put_field(out, b"/", step.into());
 }
 
-// One word of the trace line, with the space before it.
-pub fn put_runner(out: &mut [u8], at: usize, x: u8) -> usize
-    requires { at + (1 + number_room) ≤ length out.old }
-    ensures put { Put out.old at (tick_word x) out.new result }
-    ensures upper_bound { result ≤ at + tick_room }
+// One word of the trace line, with the space before it. It is of a byte and not of a `Runner`: bytes are what a run leaves
+// behind and what `tick_word` is said of, 255 where it was idle and 254 where stuck.
+#[tactic(auto, unfolding(crate::specs::Words::tick_word))]
+pub fn put_runner<const CAP: usize>(out: &mut ArrayVec<u8, CAP>, x: u8)
+    requires { array_vec_len out.old + (1 + number_room) ≤ CAP }
+    ensures put { out.new.items ≡ out.old.items ++ tick_word x }
+    ensures upper_bound { array_vec_len out.new ≤ array_vec_len out.old + tick_room }
 {
-    let next = put_byte(out, at, b' ');
-    if x == 255 {
-        return put_byte(out, next, b'-');
+    out.push(b' ');
+    match x {
+        255 => out.push(b'-'),
+        254 => out.push(b'!'),
+        rank => put_number(out, rank.into()),
     }
-    if x == 254 {
-        return put_byte(out, next, b'!');
-    }
-    put_number(out, next, x as u32)
 }

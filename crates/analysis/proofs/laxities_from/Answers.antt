@@ -1,22 +1,11 @@
--- Rank by rank the array gets the laxities of the rows; behind n it stays zero.
-use native.Mathlib.Omega.{arith}
-use borrow.Author.Rules.{rules}
-use Rattle.bounds.proofs.Laws.{filled_none, filled_turn}
-use Rattle.analysis.proofs.Laxity.{periods_first, laxities_end}
+use Rattle.std.proofs.Common.{◌+◌, length, take, get_or, if◌then◌else◌, rules, tests}
+use Rattle.rules.specs.Words.{◌<?◌}
+use Rattle.rules.specs.Answers.{no_bound, no_laxity}
+use Rattle.bounds.proofs.Rows.{row_made}
+use Rattle.analysis.specs.Laxity.{of_loads, laxities_from}
 use Rattle.analysis.proofs.laxities_from.Goals as goal
 
-pub loop-i-init : goal.loop-i-init
-loop-i-init c =
-    (search rules, filled_none _ _)
-
-pub laxity_from-x-requires : goal.laxity_from-x-requires
-laxity_from-x-requires c =
-    search periods_first
-
-pub loop-i-preserved : goal.loop-i-preserved
-loop-i-preserved c =
-    (search rules, filled_turn _ _ _ _ c.loop-i.invariant.1 _ (omega arith) c.laxity_from-x.ensures)
-
 pub returns : goal.returns
+unfolding laxities_from
 returns c =
-    search laxities_end
+    row_made _ _ (λ i. if i <? length c.args.loads.now then of_loads (take (i + 1) c.args.loads.now) (get_or c.args.bounds.now i no_bound) else no_laxity) (λ x r q k. search (rules, tests)) c.from_fn.result 16 c.from_fn.ensures.items no_laxity

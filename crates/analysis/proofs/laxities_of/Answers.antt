@@ -1,11 +1,13 @@
--- The rows are those of the sheet's C, periods and bounds, so the laxities by them are the sheet's.
-use Rattle.analysis.proofs.Laxity.{periods_sound, laxities_of_sheet}
+use Rattle.std.proofs.Common.{◌∙◌, ap, map}
+use Rattle.rules.specs.Sheet.{Sheet, Task}
+use Rattle.rules.specs.Bounds.{cost}
+use Rattle.analysis.proofs.Laxity.{laxities_of_sheet}
 use Rattle.analysis.proofs.laxities_of.Goals as goal
-
-pub laxities_from-requires : goal.laxities_from-requires
-laxities_from-requires c =
-    search periods_sound
 
 pub returns : goal.returns
 returns c =
-    search laxities_of_sheet
+    c.laxities_from.ensures
+    ∙ laxities_of_sheet c.args.plan.now c.as_slice.result.now c.bounds_of.result
+    (ap (map (λ x. x.cost)) c.as_slice.ensures.value ∙ c.loads_of-loads.ensures.costs ∙ ap (λ (x : Sheet). map cost x.tasks) c.table.ensures)
+    (ap (map (λ x. x.period)) c.as_slice.ensures.value ∙ c.loads_of-loads.ensures.periods ∙ ap (λ (x : Sheet). map (λ (task : Task). task.period) x.tasks) c.table.ensures)
+    c.bounds_of.ensures

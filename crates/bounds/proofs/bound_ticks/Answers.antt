@@ -1,20 +1,18 @@
--- Over the tasks behind i the longest section so far grows to the bound; those up to i count for nothing.
-use borrow.Author.Rules.{rules}
-use Rattle.bounds.proofs.Bounds.{sound_from, bound_begin, bound_turn, bound_end}
+use Rattle.std.proofs.Common.{◌∙◌, ap, ◌+◌, arith, length}
+use Rattle.rules.specs.Sheet.{Sheet}
+use Rattle.bounds.proofs.Bounds.{rest_task, rest_length, bound_begin, bound_turn, bound_end}
 use Rattle.bounds.proofs.bound_ticks.Goals as goal
 
-pub loop-j-init : goal.loop-j-init
-loop-j-init c =
-    (search rules, search rules, search bound_begin)
+pub loop-task-init : goal.loop-task-init
+loop-task-init c = bound_begin c.args.plan.now c.args.i
 
-pub longest_section-length-requires : goal.longest_section-length-requires
-longest_section-length-requires c =
-    search sound_from
-
-pub loop-j-preserved : goal.loop-j-preserved
-loop-j-preserved c =
-    (search rules, search rules, search bound_turn)
+pub loop-task-preserved : goal.loop-task-preserved
+loop-task-preserved c =
+    bound_turn c.args.plan.now c.args.i c.loop-task.task-index c.task-item.result c.loop-task.longest c.longest_section.result c.max-longest.result
+    (rest_task c.args.plan.now c.tasks.result.now (c.tasks.ensures.value ∙ ap (λ (x : Sheet). x.tasks) c.table.ensures) (c.args.i + 1) c.loop-task.task-index c.task-item.result (omega arith) c.task-item.is)
+    c.loop-task.invariant c.longest_section.ensures c.max-longest.ensures
 
 pub returns : goal.returns
 returns c =
-    search bound_end
+    let all = rest_length c.args.plan.now c.tasks.result.now (c.tasks.ensures.value ∙ ap (λ (x : Sheet). x.tasks) c.table.ensures) (c.args.i + 1) (omega (arith, ap length c.tasks.ensures.value, ap (λ (x : Sheet). length x.tasks) c.table.ensures)) in
+    bound_end c.args.plan.now c.args.i (c.args.i + 1 + c.loop-task.task-index) c.loop-task.longest (omega (arith, all)) (omega (arith, c.tasks.ensures.few, ap length c.tasks.ensures.value, ap (λ (x : Sheet). length x.tasks) c.table.ensures)) c.loop-task.invariant

@@ -1,19 +1,9 @@
--- Rank by rank the array gets the bounds; behind the last task it stays zero and by nothing.
-use native.Mathlib.Omega.{arith}
-use borrow.Author.Rules.{rules}
-use Rattle.rules.specs.Answers.{no_bound}
-use Rattle.bounds.proofs.Laws.{filled_none, filled_turn}
-use Rattle.bounds.proofs.Bounds.{bounds_end}
+use Rattle.std.proofs.Common.{if◌then◌else◌, length, rules, tests}
+use Rattle.rules.specs.Words.{◌<?◌}
+use Rattle.rules.specs.Answers.{by_rank, bound_of, no_bound}
+use Rattle.bounds.proofs.Rows.{row_made}
 use Rattle.bounds.proofs.bounds_of.Goals as goal
 
-pub loop-i-init : goal.loop-i-init
-loop-i-init c =
-    (search rules, search rules, filled_none no_bound _)
-
-pub loop-i-preserved : goal.loop-i-preserved
-loop-i-preserved c =
-    (search rules, search rules, filled_turn no_bound _ _ _ c.loop-i.invariant.2 _ (omega arith) c.bound_of-b.ensures)
-
 pub returns : goal.returns
-returns c =
-    search bounds_end
+unfolding by_rank
+returns c = row_made _ _ (λ i. if i <? length c.args.plan.now.tasks then bound_of c.args.plan.now i else no_bound) (λ x r q k. search (rules, tests)) c.from_fn.result 16 c.from_fn.ensures.items no_bound

@@ -1,21 +1,13 @@
--- The loop stops at the first step whose section gives the bound; where it finds none, none does.
-use native.Mathlib.Omega.{arith}
-use borrow.Author.Rules.{rules}
-use Rattle.bounds.proofs.Bounds.{step_found, step_turn, step_none}
+use Rattle.std.proofs.Common.{◌≡◌, rules, tests, Some, drop}
+use Rattle.std.proofs.lemmas.Iterator.{first_from_Range}
+use Rattle.bounds.specs.Sections.{counted_section}
+use Rattle.bounds.proofs.Bounds.{first_found}
 use Rattle.bounds.proofs.giving_step.Goals as goal
-
-pub loop-k-init : goal.loop-k-init
-loop-k-init c =
-    (search rules, λ x l. absurd (omega arith))
-
-pub returns-then-gives : goal.returns-then-gives
-returns-then-gives c =
-    search step_found
-
-pub loop-k-preserved : goal.loop-k-preserved
-loop-k-preserved c =
-    (search rules, search step_turn)
 
 pub returns : goal.returns
 returns c =
-    search step_none
+    first_found c.args.plan.now c.args.i c.args.task.now.steps c.args.ticks c.count-count.result c.count-count.ensures.value c.count-count.ensures.few c.find.result
+    (first_from_Range _ _ _ c.find.result
+    (λ k. counted_section c.args.plan.now c.args.i (drop k c.args.task.now.steps) ≡ Some c.args.ticks)
+    (λ k. counted_section c.args.plan.now c.args.i (drop k c.args.task.now.steps) ≡ Some c.args.ticks → ⊥)
+    c.find.ensures.ran (λ x q k. search (rules, tests)) (λ x q k. search (rules, tests)))

@@ -1,16 +1,7 @@
--- Position by position, the longest of the sections that begin so far; 64 positions are all.
-use Prim.Native.Nat.{◌-◌, ◌≤◌}
-use mathlib.Core.Path.{◌≡◌}
-use lib.ListN.{drop}
+use Rattle.std.proofs.Common.{◌≡◌, drop, unwrap_or}
 use Rattle.rules.specs.Words.{largest}
-use Rattle.table.specs.Table.{task_of}
-use Rattle.bounds.specs.Steps.{at_most, length_here}
+use Rattle.bounds.specs.Sections.{counted_section}
 use Rattle.bounds.proofs.longest_section.Given as goal
 
 abbrev pub invariant-loop-k : goal.invariant-loop-k
-invariant-loop-k l =
-    (l.k ≤ 64) × (l.longest ≡ largest l.k (λ k. length_here (at_most l.cs l.i) (drop k (task_of l.s l.e).steps)))
-
-abbrev pub decreases-loop-k : goal.decreases-loop-k
-decreases-loop-k l =
-    64 - l.k
+invariant-loop-k l = l.longest ≡ largest l.k (λ k. unwrap_or (counted_section l.plan l.i (drop k l.task.steps)) 0)

@@ -1,23 +1,17 @@
 -- Each return is what rule 3 says of a job that is not free of ceilings.
-use Rattle.choice.proofs.Steps.{scan_whole, goes_no_run, goes_mode, goes_begun, goes_later, goes_fresh}
+use Rattle.std.proofs.Common.{arith}
+use Rattle.std.proofs.lemmas.Grind.{common_steps}
+use Rattle.choice.proofs.Steps.{goes_at}
 use Rattle.choice.proofs.goes_barred.Goals as goal
 
-pub returns-then-not-is_of : goal.returns-then-not-is_of
-returns-then-not-is_of c =
-    search goes_no_run
+pub returns-then-runs_before : goal.returns-then-runs_before
+returns-then-runs_before c =
+    let e = goes_at c.args.mode c.args.task.now c.args.j c.in-Some.x c.from-position.result c.from-position.ensures c.in-Some.ensures in grind (arith, common_steps)
 
-pub returns-then-mode-ne1 : goal.returns-then-mode-ne1
-returns-then-mode-ne1 c =
-    search goes_mode
+pub returns-else-runs_before : goal.returns-else-runs_before
+returns-else-runs_before c =
+    let e = goes_at c.args.mode c.args.task.now c.args.j c.in-Some.x c.from-position.result c.from-position.ensures c.in-Some.ensures in grind (arith, common_steps)
 
-pub returns-then-j-ticks_of : goal.returns-then-j-ticks_of
-returns-then-j-ticks_of c =
-    search goes_begun
-
-pub returns-then-any_before : goal.returns-then-any_before
-returns-then-any_before c =
-    search goes_later
-
-pub returns : goal.returns
-returns c =
-    search (goes_fresh, scan_whole)
+pub returns-else-is_run : goal.returns-else-is_run
+returns-else-is_run c =
+    let e = goes_at c.args.mode c.args.task.now c.args.j c.in-Some.x c.from-position.result c.from-position.ensures c.in-Some.ensures in grind (arith, common_steps)

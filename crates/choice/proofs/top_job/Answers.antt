@@ -1,20 +1,13 @@
--- Where a job is pending the loop stops at it; where none is, 255.
-use native.Mathlib.Omega.{arith}
-use Rattle.choice.proofs.Walks.{top_here, top_none, top_more}
+-- The records are asked by rank, the first n of them.
+use Rattle.std.proofs.Common.{◌≡◌, rules, true, false, take}
+use Rattle.std.proofs.lemmas.Iterator.{YieldsList-from_slice, IsFirst-from_position}
+use borrow.Author.Tests.{tests}
+use Rattle.rules.specs.declared.TaskRecord.{TaskRecord}
+use Rattle.choice.proofs.Tops.{top_found}
 use Rattle.choice.proofs.top_job.Goals as goal
-
-pub loop-i-init : goal.loop-i-init
-loop-i-init c =
-    (omega arith, λ k l. absurd (omega arith))
-
-pub returns-then-j : goal.returns-then-j
-returns-then-j c =
-    search top_here
-
-pub loop-i-preserved : goal.loop-i-preserved
-loop-i-preserved c =
-    (omega arith, search top_more)
 
 pub returns : goal.returns
 returns c =
-    search top_none
+    let z = IsFirst-from_position _ _ c.position.result (λ (r : TaskRecord). r.job.pending ≡ true) (λ (r : TaskRecord). r.job.pending ≡ false) c.position.ensures.ran (YieldsList-from_slice (take c.args.n c.args.st.now.tasks) cc) (λ x q k. search (rules, tests)) (λ x q k. search (rules, tests)) in
+    let t = top_found c.args.st.now.tasks c.args.n c.requires.n_bound c.requires.by_index c.position.result z in
+    search rules

@@ -1,41 +1,32 @@
 -- The candidates so far may not go, and the walk from the present one gives the runner; after sixteen one has come round.
-use native.Mathlib.Omega.{arith}
-use Rattle.table.proofs.Laws.{lies_from}
-use Rattle.choice.proofs.Walks.{few_semaphores, walk_starts, walk_goes, walk_free, next_rank, walk_on, walk_ends}
+use Rattle.std.proofs.Common.{sym, arith}
+use Rattle.choice.proofs.Walks.{rank_below, turn, walk_starts, walk_goes, walk_unbarred, walk_below, next_inside, walk_on, walk_ends}
 use Rattle.choice.proofs.walked.Goals as goal
 
-pub loop-seen-init : goal.loop-seen-init
-loop-seen-init c =
-    (omega arith, omega arith, search walk_starts)
+pub walk-init : goal.walk-init
+walk-init c = (c.requires.from_bound, search walk_starts)
 
-pub goes_barred-requires : goal.goes_barred-requires
-goes_barred-requires c =
-    search lies_from
+pub offset_bounds-st-i : goal.offset_bounds-st-i
+offset_bounds-st-i c = let l = rank_below _ c.task-task.ensures.accepted _ c.table-table.ensures _ c.walk.invariant.0 in omega arith
+
+pub bounds-st-i : goal.bounds-st-i
+bounds-st-i c = let l = rank_below _ c.task-task.ensures.accepted _ c.table-table.ensures _ c.walk.invariant.0 in omega arith
 
 pub returns-then-goes_barred : goal.returns-then-goes_barred
-returns-then-goes_barred c =
-    search walk_goes
+returns-then-goes_barred c = walk_goes (turn c.table-table.ensures c.mode-mode.ensures c.from-i.ensures (c.task-task.ensures.value, c.task-task.ensures.accepted) c.goes_barred.ensures
+    c.requires.hs_value c.requires.choosable c.walk-test.true c.walk.invariant) c.if-goes_barred.true
 
-pub way_of-w-requires : goal.way_of-w-requires
-way_of-w-requires c =
-    search few_semaphores
+pub returns-in_default : goal.returns-in_default
+returns-in_default c = walk_below (turn c.table-table.ensures c.mode-mode.ensures c.from-i.ensures (c.task-task.ensures.value, c.task-task.ensures.accepted) c.goes_barred.ensures
+    c.requires.hs_value c.requires.choosable c.walk-test.true c.walk.invariant) c.in-Some.way c.in-Some.ensures (sym c.if-bars.ensures)
 
-pub returns-then-is_free : goal.returns-then-is_free
-returns-then-is_free c =
-    search walk_free
+pub returns-in_default-2 : goal.returns-in_default-2
+returns-in_default-2 c = walk_unbarred (turn c.table-table.ensures c.mode-mode.ensures c.from-i.ensures (c.task-task.ensures.value, c.task-task.ensures.accepted) c.goes_barred.ensures
+    c.requires.hs_value c.requires.choosable c.walk-test.true c.walk.invariant) c.in_default.ensures
 
-pub loop-seen-preserved : goal.loop-seen-preserved
-loop-seen-preserved c =
-    let pre = c.requires in (
-      omega arith,
-      next_rank _ _ pre.tabled _ pre.choosable _ c.loop-seen.invariant.1 _ c.entry_at-e.ensures _ c.goes_barred.ensures
-          _ c.loop-seen-test.true _ c.loop-seen.invariant.2 c.if-goes_barred.false
-          _ _ pre.cs_value pre.hs_value _ c.way_of-w.ensures _ c.is_free.ensures c.if-is_free.false,
-      walk_on _ _ pre.tabled _ pre.choosable _ c.loop-seen.invariant.1 _ c.entry_at-e.ensures _ c.goes_barred.ensures
-          _ c.loop-seen-test.true _ c.loop-seen.invariant.2 c.if-goes_barred.false
-          _ _ pre.cs_value pre.hs_value _ c.way_of-w.ensures _ c.is_free.ensures c.if-is_free.false,
-    )
+pub walk-preserved : goal.walk-preserved
+walk-preserved c = let τ = (turn c.table-table.ensures c.mode-mode.ensures c.from-i.ensures (c.task-task.ensures.value, c.task-task.ensures.accepted) c.goes_barred.ensures
+    c.requires.hs_value c.requires.choosable c.walk-test.true c.walk.invariant) in (next_inside τ c.in-Some.way c.in-Some.ensures c.if-goes_barred.false (sym c.if-bars.ensures), walk_on τ c.in-Some.way c.in-Some.ensures c.if-goes_barred.false (sym c.if-bars.ensures))
 
 pub returns : goal.returns
-returns c =
-    search walk_ends
+returns c = search walk_ends

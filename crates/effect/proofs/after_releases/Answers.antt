@@ -1,46 +1,37 @@
 -- Task by task, a release changes the record and no release leaves it; after the last these are the records after rule 1.
-use Prim.Native.Nat.{ℕ}
-use mathlib.Core.Path.{◌≡◌, ◌∙◌, ap, sym}
+use mathlib.Core.Path.{sym, ap, ◌∙◌}
 use native.Mathlib.Omega.{arith}
+use Rattle.std.proofs.Common.{rules}
+use lib.ListN.{length}
 use Rattle.rules.specs.Record.{record_at}
-use Rattle.table.proofs.Laws.{entry_in_lem, lies_from}
-use Rattle.rules.specs.Fields.{with_tasks}
-use Rattle.effect.specs.Effect.{changed_below}
-use Rattle.record.proofs.Sized.{sixteen}
-use Rattle.effect.proofs.Laws.{releasing, releases_none, releases_all, releases_here, releases_more, releases_no, period_from_lem}
+use Rattle.table.proofs.Laws.{task_read}
+use Rattle.effect.proofs.Laws.{roomy, releases_none, releases_all, releases_more, releases_no}
 use Rattle.effect.proofs.after_releases.Goals as goal
 use Rattle.effect.proofs.after_releases.Goals.{then-releases_at, else-releases_at}
 
 pub loop-i-init : goal.loop-i-init
 loop-i-init c =
-    (omega arith, releases_none c.args.s.now c.args.table c.args.st (sixteen c.args.st c.well_formed.1.1.0))
+    releases_none c.args.table.now c.args.st (search rules)
 
-pub releases_at-requires : goal.releases_at-requires
-releases_at-requires c =
-    period_from_lem c.args.s.now c.args.table c.requires.tabled c.loop-i.i (omega arith)
-
-pub released-q-requires : goal.released-q-requires
+pub released-requires-clause-counts_below : goal.released-requires-clause-counts_below
 unfolding record_at
-released-q-requires c =
+released-requires-clause-counts_below c =
     let l = c.loop-i in
-    let few = c.requires.tabled.few in
-    let here = releases_here c.args.s.now c.args.table c.args.st l.next l.i l.invariant.1 few (omega arith) in record { lies = lies_from c.args.s.now c.args.table l.i _ c.requires.tabled (entry_in_lem c.args.table l.i (omega arith)); counts_below = rw here (c.requires.all_below l.i (omega arith)).0; e_value = sym (c.releases_at.ensures c.args.s.now) ∙ c.if-releases_at.true }
+    (roomy 65535 c.args.st.tasks l.st.tasks l.i c.requires (omega arith) (l.invariant.changed.behind l.i (omega arith))).0
 
 pub loop-i-preserved : goal.loop-i-preserved
 unfolding record_at
 loop-i-preserved c =
     let l = c.loop-i in
-    let bytes = c.args.s.now in (
-      omega arith,
-      elim c.if-releases_at.branch [
-        | then-releases_at w ↦ w.next-is ∙ releases_more bytes c.args.table c.args.st l.next l.i l.invariant.1 c.requires.tabled.few (omega arith) w.released-q.result w.released-q.ensures
-        | else-releases_at w ↦ w.next-is ∙ releases_no bytes c.args.table c.args.st l.next l.i l.invariant.1 c.requires.tabled.few (omega arith) (sym (c.releases_at.ensures bytes) ∙ w.if-releases_at.false)
-      ],
-    )
+    let sheet = c.args.table.now in
+    let task = task_read sheet _ c.tasks-task-items.ensures.value l.i c.loop-i-test.true _ c.task-item.is in
+    elim c.if-releases_at.branch [
+      | then-releases_at w ↦ rw w.st-is (releases_more sheet c.args.st l.st l.i l.invariant (omega arith) _ task w.released.result w.released.ensures)
+      | else-releases_at w ↦ rw w.st-is (releases_no sheet c.args.st l.st l.i l.invariant (omega arith) _ task (sym c.releases_at.ensures ∙ w.if-releases_at.false))
+    ]
 
 pub returns : goal.returns
 returns c =
-    let e : c.loop-i.i ≡ c.args.table.n = omega arith in
-    c.loop-i.invariant.1
-    ∙ ap (λ (k : ℕ). with_tasks c.args.st (changed_below k (releasing c.args.s.now c.args.table c.args.st.t) c.args.st.tasks)) e
-    ∙ releases_all c.args.s.now c.args.table c.args.st
+    let l = c.loop-i in
+    let v = ap length c.tasks-task-items.ensures.value in
+    releases_all c.args.table.now c.args.st l.st l.i l.invariant (omega arith)

@@ -1,36 +1,16 @@
--- A step of the kind is passed at each turn, and there are no more than the entry's steps; another kind ends the loop.
-use mathlib.Core.Path.{refl}
-use native.Mathlib.Omega.{arith}
-use Rattle.table.specs.Table.{task_of}
-use Rattle.table.specs.Steps.{of_kind}
-use Rattle.table.proofs.Laws.{length_steps}
-use Rattle.effect.proofs.Laws.{past_end, past_more, past_inside}
+-- Behind the position the steps are counted as far as they pass.
+use Rattle.std.proofs.Common.{rules}
+use Rattle.std.proofs.lemmas.Iterator.{YieldsList-from_slice}
+use Rattle.std.proofs.lemmas.Iterator.Adapters.{YieldsList-from_skip}
+use Rattle.std.proofs.lemmas.Iterator.Consumers.{YieldsList-at, count_from_yields_List}
+use Rattle.std.proofs.lemmas.Iterator.Search.{YieldsList-from_take_while}
+use Rattle.table.specs.Steps.{meant}
+use Rattle.effect.proofs.Laws.{passing}
 use Rattle.effect.proofs.past.Goals as goal
 
-pub loop-e-init : goal.loop-e-init
-loop-e-init c =
-    refl
-
-pub overflow_add-p : goal.overflow_add-p
-overflow_add-p c =
-    let a = c.args in
-    let l = c.loop-e in
-    let inside = past_inside (of_kind a.kind) (task_of a.s.now a.e).steps l.p _ l.invariant _ c.step_at.ensures _ c.is_of.ensures c.loop-e-test.true in
-    let n = length_steps a.s.now a.e in
-    omega arith
-
-pub loop-e-smaller : goal.loop-e-smaller
-loop-e-smaller c =
-    let a = c.args in
-    let l = c.loop-e in
-    let inside = past_inside (of_kind a.kind) (task_of a.s.now a.e).steps l.p _ l.invariant _ c.step_at.ensures _ c.is_of.ensures c.loop-e-test.true in
-    let n = length_steps a.s.now a.e in
-    omega arith
-
-pub loop-e-preserved : goal.loop-e-preserved
-loop-e-preserved c =
-    search past_more
-
-pub returns : goal.returns
-returns c =
-    search past_end
+pub returns-clause-value : goal.returns-clause-value
+returns-clause-value g c = λ test tells.
+    passing test c.args.from c.steps.result.now _ c.steps.ensures.value _ (count_from_yields_List c.take_while.result _ c.count.ensures.ran
+    (YieldsList-from_take_while _ (λ x. test (meant x))
+    (YieldsList-at c.take_while.ensures.source (YieldsList-from_skip c.args.from (YieldsList-from_slice c.steps.result.now cc) cc))
+    c.take_while.ensures.closure c.take_while.ensures.done (λ x b q k. search (rules, tells))))

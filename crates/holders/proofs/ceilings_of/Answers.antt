@@ -1,20 +1,28 @@
 -- Rank by rank, the smallest so far that has a lock of each semaphore; after the last these are the ceilings.
-use native.Mathlib.Omega.{arith}
-use Rattle.table.proofs.Laws.{entry_in_lem, lies_from}
-use Rattle.holders.proofs.Holders.{ranks_none, ceilings_more, ceilings_all}
+use Rattle.holders.proofs.Steps.{limits_at}
+use Rattle.holders.proofs.Holders.{ranks_none, ceilings_more, ceilings_all, locks_more, locks_same, locks_all}
 use Rattle.holders.proofs.ceilings_of.Goals as goal
+use Rattle.holders.proofs.ceilings_of.Goals.{then-is_lock, else-is_lock}
 
 pub loop-i-init : goal.loop-i-init
 loop-i-init c =
-    (omega arith, search ranks_none)
+    search ranks_none
 
-pub after_locks-more-requires : goal.after_locks-more-requires
-after_locks-more-requires c =
-    search (lies_from, entry_in_lem)
+pub loop-x-init : goal.loop-x-init
+loop-x-init c =
+    search ceilings_more
+
+pub pass_step-requires : goal.pass_step-requires
+pass_step-requires c =
+    search limits_at
+
+pub loop-x-preserved : goal.loop-x-preserved
+loop-x-preserved c =
+    elim c.if-is_lock.branch [ then-is_lock w ↦ search locks_more | else-is_lock w ↦ search locks_same ]
 
 pub loop-i-preserved : goal.loop-i-preserved
 loop-i-preserved c =
-    (omega arith, search ceilings_more)
+    search locks_all
 
 pub returns : goal.returns
 returns c =

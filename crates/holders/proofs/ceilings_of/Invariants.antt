@@ -1,17 +1,14 @@
--- Rank by rank, the smallest so far that has a lock of each semaphore; after the last these are the ceilings.
-use Prim.Native.Nat.{◌-◌, ◌≤◌}
-use mathlib.Core.Path.{◌≡◌}
-use mathlib.Core.List.{[]}
+-- Rank by rank, the smallest so far that has a lock of each semaphore; after the last these are the ceilings. Within a rank, the
+-- locks passed, then those ahead, give the entries of the whole task.
+use Rattle.std.proofs.Common.{◌≡◌, ◌+◌, [], drop, map}
 use Rattle.rules.specs.Words.{row}
-use Rattle.table.specs.Table.{sheet_of}
-use Rattle.holders.specs.Holders.{first_with}
+use Rattle.table.specs.Steps.{meant}
+use Rattle.holders.specs.Holders.{first_with, after_steps, only_locks}
 use Rattle.holders.proofs.Holders.{has_lock}
 use Rattle.holders.proofs.ceilings_of.Given as goal
 
-abbrev pub invariant-loop-i : goal.invariant-loop-i
-invariant-loop-i l =
-    (l.i ≤ l.n) × (l.cs ≡ row 16 (first_with (has_lock (sheet_of l.s l.table)) l.i []))
+abbrev pub invariant-loop-x : goal.invariant-loop-x
+invariant-loop-x l = after_steps l.i (only_locks (map meant (drop l.x-index l.x-items))) l.cs ≡ row 16 (first_with (has_lock l.table) (l.i + 1) [])
 
-abbrev pub decreases-loop-i : goal.decreases-loop-i
-decreases-loop-i l =
-    l.n - l.i
+abbrev pub invariant-loop-i : goal.invariant-loop-i
+invariant-loop-i l = l.cs ≡ row 16 (first_with (has_lock l.table) l.i [])

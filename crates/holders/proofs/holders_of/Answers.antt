@@ -1,20 +1,15 @@
 -- Rank by rank, the smallest so far that holds each semaphore; after the last these are the holders.
-use native.Mathlib.Omega.{arith}
-use Rattle.table.proofs.Laws.{entry_in_lem, lies_from}
-use Rattle.holders.proofs.Holders.{ranks_none, holders_more, holders_all}
+use Rattle.holders.proofs.Holders.{ranks_none, job_holds, job_rests, holders_all}
 use Rattle.holders.proofs.holders_of.Goals as goal
+use Rattle.holders.proofs.holders_of.Goals.{then-j, else-j}
 
 pub loop-i-init : goal.loop-i-init
 loop-i-init c =
-    (omega arith, search ranks_none)
-
-pub after_job-more-requires : goal.after_job-more-requires
-after_job-more-requires c =
-    search (lies_from, entry_in_lem)
+    search ranks_none
 
 pub loop-i-preserved : goal.loop-i-preserved
 loop-i-preserved c =
-    (omega arith, search holders_more)
+    elim c.if-j.branch [ then-j w ↦ search job_holds | else-j w ↦ search job_rests ]
 
 pub returns : goal.returns
 returns c =

@@ -6,6 +6,6 @@ pub returns-then-not-j : goal.returns-then-not-j
 returns-then-not-j c =
     search rests_alone
 
-pub returns : goal.returns
-returns c =
+pub returns-else-not-j : goal.returns-else-not-j
+returns-else-not-j c =
     search stands_alone

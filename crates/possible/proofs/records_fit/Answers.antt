@@ -1,20 +1,17 @@
--- The first record that does not fit ends the loop; where there is none, the sixteen fit.
-use native.Mathlib.Omega.{arith}
-use Rattle.possible.proofs.Fits.{record_off, record_more, records_all}
+-- Every record, with its rank, passes the test.
+use Rattle.std.proofs.Common.{rules, ◌∙◌}
+use Rattle.std.proofs.lemmas.Iterator.{YieldsList-from_slice}
+use Rattle.std.proofs.lemmas.Iterator.Consumers.{YieldsList-from_enumerate}
+use Rattle.std.proofs.lemmas.Iterator.Search.{all_from_yields_List}
+use Rattle.rules.specs.Fields.{blank}
+use Rattle.rules.specs.Record.{record_at, record_fits}
+use Rattle.possible.specs.Records.{records_fit}
+use Rattle.possible.proofs.Lists.{every_enumerated}
 use Rattle.possible.proofs.records_fit.Goals as goal
 
-pub loop-i-init : goal.loop-i-init
-loop-i-init c =
-    (omega arith, λ k l. absurd (omega arith))
-
-pub returns-then-not-record_fits : goal.returns-then-not-record_fits
-returns-then-not-record_fits c =
-    search record_off
-
-pub loop-i-preserved : goal.loop-i-preserved
-loop-i-preserved c =
-    (omega arith, search record_more)
-
 pub returns : goal.returns
+unfolding records_fit record_at
 returns c =
-    search records_all
+    all_from_yields_List (λ p. record_fits c.args.table.now c.args.st.t p.0 p.1) c.all.new.self _ _ c.all.ensures.ran
+    (YieldsList-from_enumerate (YieldsList-from_slice c.args.st.tasks cc) cc) (λ x b q k. search rules)
+    ∙ every_enumerated (record_fits c.args.table.now c.args.st.t) c.args.st.tasks blank 16 (search rules)

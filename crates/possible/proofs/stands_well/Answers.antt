@@ -1,15 +1,11 @@
--- At a run from 1 to its length is left, at a lock 0; at an unlock or at the end no job stands well.
-use Rattle.possible.proofs.Fits.{stands_run, stands_lock, stands_not}
+-- At a run, from 1 to its full length is left.
+use Rattle.std.proofs.Common.{◌≡◌, ◌∙◌, rules}
+use Rattle.rules.specs.Words.{within}
+use Rattle.possible.proofs.Fits.{stands_run}
 use Rattle.possible.proofs.stands_well.Goals as goal
 
-pub returns-then-is_of : goal.returns-then-is_of
-returns-then-is_of c =
-    search stands_run
-
-pub returns-then-is_of-2 : goal.returns-then-is_of-2
-returns-then-is_of-2 c =
-    search stands_lock
-
-pub returns : goal.returns
-returns c =
-    search stands_not
+pub returns-in-Some-Run : goal.returns-in-Some-Run
+unfolding within
+returns-in-Some-Run c =
+    let from_one : c.contains.result ≡ within 1 c.in-Some-Run.full c.args.left = search rules in
+    from_one ∙ stands_run _ _ _ _ c.in-Some-Run.ensures c.in-Some-Run.field-0-is

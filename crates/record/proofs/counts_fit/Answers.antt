@@ -1,43 +1,15 @@
--- One count above t is too many; where the loop finds none, they fit.
-use Prim.Native.Nat.{◌≤◌}
-use native.Mathlib.Omega.{arith}
-use lib.ListN.{get_or}
-use Rattle.rules.proofs.Laws.{and_at}
-use Rattle.record.proofs.Laws.{counted_size, too_many, each_fits}
+-- Every count of the row passes the test.
+use mathlib.Core.Path.{◌∙◌}
+use Rattle.std.proofs.Common.{rules, ap}
+use Rattle.std.specs.List.{list_all}
+use Rattle.std.proofs.lemmas.Iterator.{YieldsList-from_slice}
+use Rattle.std.proofs.lemmas.Iterator.Search.{all_from_yields_List}
+use borrow.Author.Tests.{tests}
+use Rattle.rules.specs.Words.{◌≤?◌}
+use Rattle.record.proofs.Laws.{list_all-counted}
 use Rattle.record.proofs.counts_fit.Goals as goal
-
-pub loop-k-init : goal.loop-k-init
-loop-k-init c =
-    (omega arith, λ i l. absurd (omega arith))
-
-pub offset_bounds-row-k : goal.offset_bounds-row-k
-offset_bounds-row-k c =
-    omega arith
-
-pub bounds-row-k : goal.bounds-row-k
-bounds-row-k c =
-    omega arith
-
-pub returns-then-t-row : goal.returns-then-t-row
-returns-then-t-row c =
-    let row = c.counted-row in
-    let l = c.loop-k in
-    too_many c.args.t c.args.c row.result row.ensures l.k (omega (arith, counted_size c.args.c row.result row.ensures)) c.if-t-row.true
-
-pub overflow_add-k : goal.overflow_add-k
-overflow_add-k c =
-    omega arith
-
-pub loop-k-smaller : goal.loop-k-smaller
-loop-k-smaller c =
-    omega arith
-
-pub loop-k-preserved : goal.loop-k-preserved
-loop-k-preserved c =
-    let l = c.loop-k in
-    (omega arith, λ i u. and_at (λ i. get_or c.counted-row.result i 0 ≤ c.args.t) l.k l.invariant.1 c.if-t-row.false i (omega arith))
 
 pub returns : goal.returns
 returns c =
-    let row = c.counted-row in
-    each_fits c.args.t c.args.c row.result row.ensures (λ i u. c.loop-k.invariant.1 i (omega (arith, counted_size c.args.c row.result row.ensures)))
+    all_from_yields_List (λ x. x ≤? c.args.t) _ _ _ c.all.ensures.ran (YieldsList-from_slice c.from.result cc) (λ x b q k. search (rules, tests))
+    ∙ ap (list_all (λ x. x ≤? c.args.t)) c.from.ensures ∙ list_all-counted c.args.t c.args.c

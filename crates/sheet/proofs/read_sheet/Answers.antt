@@ -1,11 +1,8 @@
--- A head that is turned away turns the sheet away; the tasks of another are read behind it.
-use Rattle.sheet.proofs.Sheets.{head_away, head_begun}
+-- The table is that of a sheet that these bytes are.
+use Rattle.std.proofs.Common.{arith}
+use Rattle.sheet.proofs.Parts.{parts_in_turn}
 use Rattle.sheet.proofs.read_sheet.Goals as goal
 
-pub returns-in_default : goal.returns-in_default
-returns-in_default c =
-    search head_away
-
-pub read_tasks-requires : goal.read_tasks-requires
-read_tasks-requires c =
-    search head_begun
+pub new-requires : goal.new-requires
+new-requires c =
+    (c.args.s.now, grind (arith, parts_in_turn))

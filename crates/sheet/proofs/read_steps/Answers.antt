@@ -1,28 +1,19 @@
--- The steps so far are read and leave the nest so; the first one refused ends it, and sections open at the end are 12.
-use native.Mathlib.Omega.{arith}
-use Rattle.sheet.proofs.Steps.{going_first, steps_refused, placed_here, going_more, sections_open, steps_read}
+-- The first step refused is the refusal; one that is not leaves the nest and the cursor behind it.
+use Rattle.std.proofs.Common.{◌<◌, arith}
+use Rattle.std.proofs.lemmas.Result.{err_from_is_err_and}
+use Rattle.sheet.specs.Reader.{steps_there}
+use Rattle.sheet.proofs.Steps.{steps_in_turn, going_more}
 use Rattle.sheet.proofs.read_steps.Goals as goal
 
-pub loop-k-init : goal.loop-k-init
-loop-k-init c =
-    search going_first
-
-pub returns-in_default : goal.returns-in_default
-returns-in_default c =
-    search steps_refused
-
-pub nested-more-requires : goal.nested-more-requires
-nested-more-requires c =
-    record { depth_bound = omega arith; value_value = search placed_here }
+pub returns-in_err-step : goal.returns-in_err-step
+unfolding steps_there
+returns-in_err-step c =
+    let p = err_from_is_err_and c.from_residual.result c.from_residual.ensures.1 in
+    rw (p.1, p.2) (grind (arith, steps_in_turn))
 
 pub loop-k-preserved : goal.loop-k-preserved
 loop-k-preserved c =
+    let γ = c.loop-k.invariant in
+    let below : c.loop-k.k < c.args.own.count = rw (← c.own.view_is) c.loop-k-test.true in
+    let e = c.in_ok-step.ensures.reads _ γ.many γ.opens in
     search going_more
-
-pub returns-then-nest-gt0 : goal.returns-then-nest-gt0
-returns-then-nest-gt0 c =
-    search sections_open
-
-pub returns : goal.returns
-returns c =
-    search steps_read

@@ -1,28 +1,10 @@
--- The tasks so far are read; the first one refused turns the sheet away, and bytes behind the last are 13.
-use native.Mathlib.Omega.{arith}
-use Rattle.sheet.proofs.Sheets.{taking_first, still_near, task_away, taking_more, bytes_left, sheet_read}
+-- The first task refused is the refusal.
+use Rattle.std.proofs.Common.{arith}
+use Rattle.std.proofs.lemmas.Result.{err_from_is_err_and}
+use Rattle.sheet.proofs.Tasks.{tasks_in_turn}
 use Rattle.sheet.proofs.read_tasks.Goals as goal
 
-pub loop-i-init : goal.loop-i-init
-loop-i-init c =
-    search taking_first
-
-pub read_task-a-requires : goal.read_task-a-requires
-read_task-a-requires c =
-    record { at_in_bounds = omega arith; at_bound = search still_near }
-
-pub returns-in_default : goal.returns-in_default
-returns-in_default c =
-    search task_away
-
-pub loop-i-preserved : goal.loop-i-preserved
-loop-i-preserved c =
-    search taking_more
-
-pub returns-then-at-s : goal.returns-then-at-s
-returns-then-at-s c =
-    search bytes_left
-
-pub returns : goal.returns
-returns c =
-    search sheet_read
+pub returns-in_err-task : goal.returns-in_err-task
+returns-in_err-task c =
+    let p = err_from_is_err_and c.from_residual.result c.from_residual.ensures.1 in
+    rw (p.1, p.2) (grind (arith, tasks_in_turn))

@@ -1,9 +1,10 @@
--- The bytes that were made stand at the start of the buffer.
-use Rattle.std.proofs.Common.{◌-◌, ◌≤◌, length}
+-- The digit that waits for its fellow is one.
+use Rattle.std.proofs.Common.{◌<◌, IfSome}
 use Rattle.vectors.proofs.bytes_of.Given as goal
 
-abbrev pub invariant-loop-n : goal.invariant-loop-n
-invariant-loop-n l = record { read : l.at ≤ length l.hex; made : l.n ≤ length l.out }
-
-abbrev pub decreases-loop-n : goal.decreases-loop-n
-decreases-loop-n l = length l.out - l.n
+abbrev pub invariant-loop-digit : goal.invariant-loop-digit
+invariant-loop-digit l = record {
+  can : (goal.iterator-loop-digit).can_next l.digit-iterator;
+  ends : (goal.iterator-loop-digit).is_finite l.digit-iterator;
+  waiting : IfSome l.high (λ high. high < 16);
+}

@@ -1,0 +1,46 @@
+// The loads of a sheet's tasks.
+
+ghost use Rattle.std.specs.Prelude.{◌≡◌, ◌≤◌, map};
+ghost use Rattle.rules.specs.Bounds.{cost};
+
+use arrayvec::ArrayVec;
+use bounds::cost_of;
+use table::{Table, Task};
+
+// What a task adds to a demand: C in each of its periods.
+#[derive(Clone, Copy, PartialEq, Eq, Debug)]
+pub struct Load {
+    pub cost: u16,
+    pub period: u16,
+    pub ghost at_least_one: { 1 ≤ period },
+}
+
+// What stands in a place that no load has been put in yet. (Not derived: a period of 0 is none.)
+impl Default for Load {
+    fn default() -> Load {
+        Load { cost: 0, period: 1 }
+    }
+}
+
+impl From<&Task> for Load {
+    ghost from_gives = { λ task load. (load.cost ≡ cost task.now) × (load.period ≡ task.now.period) };
+
+    fn from(task: &Task) -> Load {
+        Load {
+            cost: cost_of(task),
+            period: task.period(),
+        }
+    }
+}
+
+// The load of each task, by rank.
+pub fn loads_of(table: &Table) -> ArrayVec<Load, 16>
+    ensures costs { map (λ x. x.cost) result.items ≡ map cost table.now.tasks }
+    ensures periods { map (λ x. x.period) result.items ≡ map (λ task. task.period) table.now.tasks }
+{
+    let mut loads = ArrayVec::new();
+    for task in table.tasks() {
+        loads.push(Load::from(task));
+    }
+    loads
+}

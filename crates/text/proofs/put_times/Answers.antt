@@ -1,9 +1,0 @@
--- Three fields, one behind another.
-use Rattle.words.proofs.Put.{put_more}
-use Rattle.text.specs.Text.{times}
-use Rattle.text.proofs.put_times.Goals as goal
-
-pub returns-clause-put : goal.returns-clause-put
-unfolding times
-returns-clause-put c =
-    put_more (put_more c.put_field-next.ensures.put c.put_field-next-2.ensures.put) c.put_field.ensures.put
