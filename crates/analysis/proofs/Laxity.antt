@@ -68,12 +68,12 @@ module _ (sheet : Sheet) (loads : List Load) (b i : ℕ) (count : length loads �
       ∙ largest_of_same ((task_at sheet i).period / (task_at sheet k).period) _ _ _ _ (slack_same _ _ own_same) (λ l n. slack_same _ _ (ap (λ (p : ℕ). (l + 1) * p) period)))
 
 spare : Load
-spare = record { cost = 0; period = 1; at_least_one = omega arith }
+spare = record { cost = 0; period = 1; at_least_one = omega arith; small = (omega arith, omega arith) }
 
 -- and so are the laxities of all its tasks
 module _ (sheet : Sheet) (loads : List Load) (bounds : List Bound) (ec : map (λ x. x.cost) loads ≡ map cost sheet.tasks) (ep : map (λ x. x.period) loads ≡ map (λ (x : Task). x.period) sheet.tasks)
     (eb : bounds ≡ by_rank no_bound bound_of sheet) where
-  count_same : length loads ≡ length sheet.tasks
+  pub count_same : length loads ≡ length sheet.tasks
   count_same = omega (arith, ap length ec, length-map loads (λ x. x.cost), length-map sheet.tasks cost)
 
   module _ (i : ℕ) (l : i < length loads) where
@@ -92,6 +92,10 @@ module _ (sheet : Sheet) (loads : List Load) (bounds : List Bound) (ec : map (λ
         ap (λ (x : Load). x.period) (load_is r m) ∙ sym (get_or-map (λ x. x.period) loads r spare 0 (omega arith))
         ∙ ap (λ (xs : List ℕ). get_or xs r 0) ep ∙ get_or-map (λ (x : Task). x.period) sheet.tasks r no_task 0 (omega (arith, count_same))
 
+    -- each by the loads up to its rank
+    pub laxity_is : laxity_from (take (i + 1) loads) (bound sheet i) ≡ laxity sheet i
+    laxity_is = laxity_of_sheet sheet (take (i + 1) loads) (bound sheet i) i (omega (arith, length-take (i + 1) loads)) spare cost_is period_is refl
+
     bound_is : i < 16 → get_or bounds i no_bound ≡ bound_of sheet i
     unfolding by_rank
     bound_is m = ap (λ (x : List Bound). get_or x i no_bound) eb ∙ row_at 16 _ no_bound i m ∙ rw (lt-ltb i (length sheet.tasks) (omega (arith, count_same))) refl
@@ -100,7 +104,7 @@ module _ (sheet : Sheet) (loads : List Load) (bounds : List Bound) (ec : map (λ
     unfolding of_loads laxity_of bound_of
     rank_same m =
         ap (of_loads (take (i + 1) loads)) (bound_is m)
-        ∙ ap (λ (z : ℤ). record { ticks = z; by = bound_by sheet i }) (laxity_of_sheet sheet (take (i + 1) loads) (bound sheet i) i (omega (arith, length-take (i + 1) loads)) spare cost_is period_is refl)
+        ∙ ap (λ (z : ℤ). record { ticks = z; by = bound_by sheet i }) laxity_is
 
   pub laxities_of_sheet : laxities_from loads bounds ≡ by_rank no_laxity laxity_of sheet
   unfolding laxities_from by_rank

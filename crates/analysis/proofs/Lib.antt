@@ -3,3 +3,4 @@ pub mod Ranks
 pub mod Integers
 pub mod Laxity
 pub mod Counted
+pub mod Near

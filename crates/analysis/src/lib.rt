@@ -5,8 +5,10 @@
 mod loads;
 
 ghost use Rattle.std.specs.Prelude.{◌≡◌, ◌+◌, ◌^◌, ◌<◌, ◌≤◌, length};
+ghost use Rattle.std.specs.Int.RustNames.{unsigned_abs};
 ghost use Rattle.rules.specs.Bounds.{rounded_up};
 ghost use Rattle.rules.specs.Answers.{by_rank, laxity_of, no_laxity};
+ghost use Rattle.rules.specs.Laws.{All};
 ghost use Rattle.analysis.specs.Laxity.{own_period, has_points_of, another_has, demand_from, slack_from, largest_from, counted_from, laxity_from, of_loads, laxities_from};
 
 use bounds::bounds_of;
@@ -17,7 +19,7 @@ use std::array;
 
 // t over a period, rounded up: the quotient, and one more if a remainder is left. (`div_ceil` would hide these two parts, and each
 // has an edit.)
-#[tactic(auto, using(crate::proofs::Rounded::rounded_whole, crate::proofs::Rounded::rounded_more))]
+#[tactic(auto, using(crate::proofs::Rounded::rounded_whole, crate::proofs::Rounded::rounded_fits, crate::proofs::Rounded::rounded_more))]
 fn rounded_up(t: u32, period: u32) -> u32
     requires { (1 ≤ period) × (period < 65536) × (t < 65536) }
     ensures { (result ≡ rounded_up t period) × (result < 131072) }
@@ -36,6 +38,7 @@ struct Demand<'a> {
     loads: &'a [Load],
     ghost some: { 1 ≤ length loads.now },
     ghost few: { length loads.now ≤ 16 },
+    ghost small: { bound < 2 ^ 16 },
 }
 
 impl Demand<'_> {
@@ -118,7 +121,8 @@ impl Demand<'_> {
 
     // The largest over the points of each task.
     fn largest_slack(&self) -> i64
-        ensures { result ≡ laxity_from self.now.loads.now self.now.bound }
+        ensures value { result ≡ laxity_from self.now.loads.now self.now.bound }
+        ensures near { unsigned_abs result < 2 ^ 32 }
     {
         let first = self.slack_at(self.own_period());
         let mut best = first;
@@ -134,7 +138,8 @@ impl Demand<'_> {
 pub fn laxity_from(loads: &[Load], b: Bound) -> Laxity
     requires some { 1 ≤ length loads.now }
     requires few { length loads.now ≤ 16 }
-    ensures { result ≡ of_loads loads.now b }
+    ensures value { result ≡ of_loads loads.now b }
+    ensures near { unsigned_abs result.ticks < 2 ^ 32 }
 {
     let demand = Demand {
         bound: b.ticks,
@@ -149,7 +154,8 @@ pub fn laxity_from(loads: &[Load], b: Bound) -> Laxity
 // The laxity of each rank from the loads and the bounds; zero behind them.
 pub fn laxities_from(loads: &[Load], bounds: &[Bound; 16]) -> [Laxity; 16]
     requires { length loads.now ≤ 16 }
-    ensures { result ≡ laxities_from loads.now bounds.now }
+    ensures value { result ≡ laxities_from loads.now bounds.now }
+    ensures near { All (λ x. unsigned_abs x.ticks < 2 ^ 32) result }
 {
     array::from_fn(|i| {
         if i < loads.len() {
@@ -162,7 +168,8 @@ pub fn laxities_from(loads: &[Load], bounds: &[Bound; 16]) -> [Laxity; 16]
 
 // The laxity of each task; zero behind them.
 pub fn laxities_of(plan: &Plan) -> [Laxity; 16]
-    ensures { result ≡ by_rank no_laxity laxity_of plan.now }
+    ensures value { result ≡ by_rank no_laxity laxity_of plan.now }
+    ensures near { All (λ x. unsigned_abs x.ticks < 2 ^ 32) result }
 {
     let loads = loads_of(plan.table());
     laxities_from(loads.as_slice(), &bounds_of(plan))

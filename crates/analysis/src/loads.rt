@@ -1,6 +1,6 @@
 // The loads of a sheet's tasks.
 
-ghost use Rattle.std.specs.Prelude.{◌≡◌, ◌≤◌, map};
+ghost use Rattle.std.specs.Prelude.{◌≡◌, ◌^◌, ◌<◌, ◌≤◌, map};
 ghost use Rattle.rules.specs.Bounds.{cost};
 
 use arrayvec::ArrayVec;
@@ -13,6 +13,7 @@ pub struct Load {
     pub cost: u16,
     pub period: u16,
     pub ghost at_least_one: { 1 ≤ period },
+    pub ghost small: { (cost < 2 ^ 16) × (period < 2 ^ 16) },
 }
 
 // What stands in a place that no load has been put in yet. (Not derived: a period of 0 is none.)
@@ -22,10 +23,10 @@ impl Default for Load {
     }
 }
 
-impl From<&Task> for Load {
+impl From<&Task<'_>> for Load {
     ghost from_gives = { λ task load. (load.cost ≡ cost task.now) × (load.period ≡ task.now.period) };
 
-    fn from(task: &Task) -> Load {
+    fn from(task: &Task<'_>) -> Load {
         Load {
             cost: cost_of(task),
             period: task.period(),

@@ -1,5 +1,5 @@
 -- Laws of the longest of many sections, of the first that gives a bound, and of a bound.
-use Rattle.std.proofs.Common.{ℕ, zero, suc, ◌+◌, ◌-◌, ◌≤◌, ◌<◌, max, ◌≡◌, refl, sym, ap, ◌∙◌, List, [], Bool, true, false, ◌&&◌, length, get_or, drop, take, arith, if◌then◌else◌, Option, Some, None, unwrap_or, add-one}
+use Rattle.std.proofs.Common.{ℕ, zero, suc, ◌+◌, ◌-◌, ◌≤◌, ◌<◌, max, ◌≡◌, refl, sym, ap, ◌∙◌, List, [], ◌∷◌, Bool, true, false, ◌&&◌, length, get_or, drop, take, arith, if◌then◌else◌, Option, Some, None, unwrap_or, add-one}
 use mathlib.Core.Logic.{⊎_elim}
 use Rattle.std.proofs.lemmas.List.{get_or_past, get_or_default, get_or-drop, take_all, length-drop}
 use borrow.Author.Tests.{lt-ltb, le-ltb, ne_eqb, eq-eqb}
@@ -8,10 +8,11 @@ use Rattle.std.specs.Ordering.{ord_max}
 use Rattle.std.proofs.Common.{nat_cmp}
 use Rattle.std.proofs.lemmas.Bool.Decides.{nat_tests}
 use Rattle.rules.specs.Words.{◌=?◌, some, smallest, largest}
-use Rattle.rules.specs.Sheet.{Step, Sheet, Task, task_at, no_task}
-use Rattle.rules.specs.Bounds.{section_length, begins, steps_from, is_counted, counted_length, bound, gives, bound_by, section}
-use Rattle.rules.proofs.Laws.{below, and_at, some_of, none_of, smallest_found, smallest_is, smallest_none, smallest_same, largest_same}
+use Rattle.rules.specs.Sheet.{Step, run, lock, unlock, Sheet, Task, task_at, no_task}
+use Rattle.rules.specs.Bounds.{runs, cost, section_length, begins, steps_from, is_counted, counted_length, bound, gives, bound_by, section}
+use Rattle.rules.proofs.Laws.{below, if_cases, and_at, some_of, none_of, smallest_found, smallest_is, smallest_none, smallest_same, largest_same}
 use Rattle.table.proofs.Laws.{drop_past}
+use Rattle.bounds.proofs.Steps.{inside_le, runs_drop}
 use Rattle.bounds.specs.Sections.{counts, counted_section, longest_section, first_giving}
 
 -- the larger of two numbers, as `max` picks it
@@ -35,6 +36,26 @@ largest_end n (suc m) f l h = ⊎_elim
     (λ u. omega (arith, largest_end n m f (omega arith) h, h m (omega arith)))
     (λ u. let e : n ≡ suc m = omega arith in rw e refl)
     (below n (suc m))
+
+largest_few : (n : ℕ) (f : ℕ → ℕ) (m : ℕ) → ((k : ℕ) → f k ≤ m) → largest n f ≤ m
+unfolding largest
+largest_few zero f m h = omega arith
+largest_few (suc n) f m h = omega (arith, largest_few n f m h, h n)
+
+-- no section is longer than its task, so no bound is above every cost
+section_few : (steps : List Step) → section_length steps ≤ runs steps
+unfolding section_length runs
+section_few [] = omega arith
+section_few (run n ∷ steps) = omega arith
+section_few (lock s ∷ steps) = inside_le s steps
+section_few (unlock s ∷ steps) = omega arith
+
+pub bound_few : (sheet : Sheet) (m : ℕ) → ((j : ℕ) → cost (task_at sheet j) ≤ m) → (i : ℕ) → bound sheet i ≤ m
+unfolding bound counted_length steps_from cost
+bound_few sheet m h i = largest_few 16 _ m (λ j. largest_few 64 _ m (λ k.
+    if_cases (λ n. n ≤ m) (is_counted sheet i j k) _ _
+    (λ e. omega (arith, section_few (drop k (task_at sheet j).steps), runs_drop (task_at sheet j).steps k, h j))
+    (λ e. omega arith)))
 
 -- past a task's last step nothing begins
 module _ (sheet : Sheet) (i : ℕ) (steps : List Step) where
@@ -130,7 +151,7 @@ module _ (sheet : Sheet) (i : ℕ) where
       go true n = refl
       go false n = refl
 
-  task_past : (j : ℕ) → length sheet.tasks ≤ j → task_at sheet j ≡ no_task
+  pub task_past : (j : ℕ) → length sheet.tasks ≤ j → task_at sheet j ≡ no_task
   unfolding task_at
   task_past j l = get_or_past sheet.tasks j no_task l
 

@@ -8,7 +8,7 @@ use Rattle.rules.specs.Choice.{ceiling}
 use Rattle.rules.specs.Bounds.{runs, inside, begins, section_length}
 use Rattle.rules.specs.Laws.{All, StepLimits}
 use Rattle.rules.proofs.Laws.{all_drop, row_at}
-use Rattle.table.specs.Steps.{meant}
+use Rattle.table.specs.Steps.{meant, said}
 use Rattle.table.specs.declared.Step.{Step}
 use Rattle.table.specs.declared.Step.TheVariants.{Run, Lock, Unlock}
 use Rattle.table.proofs.Laws.{drop_past}
@@ -31,15 +31,15 @@ module _ (sheet : Sheet) (i : ℕ) where
   begins_other (Unlock s) rest h = refl
 
 -- what a look at a position of a task's steps finds
-module _ (sheet : Sheet) (i k : ℕ) (steps : List Step) (of : List Rules·Step) (value : map meant steps ≡ of) where
+module _ (sheet : Sheet) (i k : ℕ) (steps : List (List ℕ)) (of : List Rules·Step) (value : map said steps ≡ of) where
   pub nothing_there : length steps ≤ k → None ≡ counted_section sheet i (drop k of)
-  nothing_there l = sym (ap (counted_section sheet i) (drop_past of k (omega (arith, ap length value, length-map steps meant))) ∙ begins_none sheet i)
+  nothing_there l = sym (ap (counted_section sheet i) (drop_past of k (omega (arith, ap length value, length-map steps said))) ∙ begins_none sheet i)
 
-  module _ (x : Step) (there : k < length steps) (is : x ≡ get_or steps k x) where
-    cut : drop k of ≡ meant x ∷ map meant (drop (k + 1) steps)
+  module _ (x : Step) (d : List ℕ) (there : k < length steps) (is : meant x ≡ said (get_or steps k d)) where
+    cut : drop k of ≡ meant x ∷ map said (drop (k + 1) steps)
     cut =
-        ap (drop k) (sym value) ∙ drop-map meant k steps ∙ ap (map meant) (drop-cons steps k x there)
-        ∙ ap (λ (y : Step). meant y ∷ map meant (drop (suc k) steps)) (sym is) ∙ ap (λ (n : ℕ). meant x ∷ map meant (drop n steps)) (sym (add-one k))
+        ap (drop k) (sym value) ∙ drop-map said k steps ∙ ap (map said) (drop-cons steps k d there)
+        ∙ ap (λ (y : Rules·Step). y ∷ map said (drop (suc k) steps)) (sym is) ∙ ap (λ (n : ℕ). meant x ∷ map said (drop n steps)) (sym (add-one k))
 
     pub no_lock : ((u : ℕ) → x ≡ Lock u → ⊥) → None ≡ counted_section sheet i (drop k of)
     no_lock h = sym (ap (counted_section sheet i) cut ∙ begins_other sheet i x _ h)
@@ -48,8 +48,8 @@ module _ (sheet : Sheet) (i k : ℕ) (steps : List Step) (of : List Rules·Step)
       pub lock_below : All (StepLimits 16) of → u < 16
       lock_below α = let β : StepLimits 16 (meant x) = (subst (All (StepLimits 16)) cut (all_drop (StepLimits 16) k of α)).0 in subst (λ (y : Step). StepLimits 16 (meant y)) locks β
 
-      at_lock : counted_section sheet i (drop k of) ≡ (if ceiling sheet u ≤? i then Some (runs (inside u (map meant (drop (k + 1) steps)))) else None)
-      at_lock = ap (counted_section sheet i) (cut ∙ ap (λ (y : Step). meant y ∷ map meant (drop (k + 1) steps)) locks) ∙ begins_lock sheet i u _
+      at_lock : counted_section sheet i (drop k of) ≡ (if ceiling sheet u ≤? i then Some (runs (inside u (map said (drop (k + 1) steps)))) else None)
+      at_lock = ap (counted_section sheet i) (cut ∙ ap (λ (y : Step). meant y ∷ map said (drop (k + 1) steps)) locks) ∙ begins_lock sheet i u _
 
       -- the ceiling c of its semaphore, as the row of ceilings has it, decides; behind it stands what the slice has left
       module _ (cs : List ℕ) (row_of : cs ≡ row 16 (ceiling sheet)) (α : All (StepLimits 16) of) where
@@ -59,7 +59,7 @@ module _ (sheet : Sheet) (i k : ℕ) (steps : List Step) (of : List Rules·Step)
         pub not_counted : i < get_or cs u 0 → None ≡ counted_section sheet i (drop k of)
         not_counted l = sym (at_lock ∙ rw (lt-leb (ceiling sheet u) i (omega (arith, ceiling_is))) refl)
 
-        pub counted : (r : ℕ) → get_or cs u 0 ≤ i → r ≡ runs (inside u (map meant (take (length steps - (k + 1)) (drop (k + 1) steps)))) → Some r ≡ counted_section sheet i (drop k of)
+        pub counted : (r : ℕ) → get_or cs u 0 ≤ i → r ≡ runs (inside u (map said (take (length steps - (k + 1)) (drop (k + 1) steps)))) → Some r ≡ counted_section sheet i (drop k of)
         counted r l e =
             let all = take_all (length steps - (k + 1)) (drop (k + 1) steps) (omega (arith, length-drop (k + 1) steps)) in
-            ap Some (e ∙ ap (λ (xs : List Step). runs (inside u (map meant xs))) all) ∙ sym (at_lock ∙ rw (le-leb (ceiling sheet u) i (omega (arith, ceiling_is))) refl)
+            ap Some (e ∙ ap (λ (xs : List (List ℕ)). runs (inside u (map said xs))) all) ∙ sym (at_lock ∙ rw (le-leb (ceiling sheet u) i (omega (arith, ceiling_is))) refl)

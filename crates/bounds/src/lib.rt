@@ -4,7 +4,7 @@
 ghost use Rattle.std.specs.Prelude.{◌≡◌, ◌+◌, ◌^◌, ◌<◌, drop, length, map};
 ghost use Rattle.rules.specs.Bounds.{runs, inside, bound, bound_by, cost};
 ghost use Rattle.rules.specs.Answers.{by_rank, bound_of, no_bound};
-ghost use Rattle.table.specs.Steps.{meant};
+ghost use Rattle.table.specs.Steps.{said};
 ghost use Rattle.bounds.specs.Sections.{counted_section, longest_section, first_giving};
 
 use holders::Plan;
@@ -13,11 +13,11 @@ use std::array;
 use table::{Step, Task};
 
 // The sum of the runs among steps.
-fn runs(steps: &[Step]) -> u16
-    requires { runs (map meant steps.now) < 2 ^ 16 }
-    ensures { result ≡ runs (map meant steps.now) }
+fn runs(steps: &[[u8; 3]]) -> u16
+    requires { runs (map said steps.now) < 2 ^ 16 }
+    ensures { result ≡ runs (map said steps.now) }
 {
-    steps.iter().map(|x| x.ticks()).sum()
+    steps.iter().map(|x| Step::from(*x).ticks()).sum()
 }
 
 // C is the sum of a task's runs.
@@ -29,12 +29,12 @@ pub fn cost_of(task: &Task) -> u16
 }
 
 // What stands inside a section of semaphore u: the steps behind its lock up to the unlock.
-fn inside(u: u16, steps: &[Step]) -> &[Step]
-    ensures { map meant result.now ≡ inside u (map meant steps.now) }
+fn inside(u: u16, steps: &[[u8; 3]]) -> &[[u8; 3]]
+    ensures { map said result.now ≡ inside u (map said steps.now) }
 {
     let end = steps
         .iter()
-        .position(|x| *x == Step::Unlock(u))
+        .position(|x| Step::from(*x) == Step::Unlock(u))
         .unwrap_or(steps.len());
     &steps[..end]
 }
@@ -44,8 +44,8 @@ fn counted_section(plan: &Plan, task: &Task, i: usize, k: usize) -> Option<u16>
     ensures { result ≡ counted_section plan.now i (drop k task.now.steps) }
 {
     let steps = task.steps();
-    let x = steps.get(k)?;
-    let Step::Lock(u) = *x else {
+    let bytes = steps.get(k)?;
+    let Step::Lock(u) = Step::from(*bytes) else {
         return None;
     };
     let ceiling = plan.ceilings()[usize::from(u)];

@@ -8,15 +8,15 @@ use Rattle.rules.specs.Record.{behind, ahead}
 use Rattle.rules.specs.Choice.{full, at_run, fresh, goes}
 use Rattle.rules.specs.declared.Job.{Job}
 use Rattle.rules.proofs.Laws.{sure, and_no}
-use Rattle.table.specs.Steps.{meant, here, here_is}
+use Rattle.table.specs.Steps.{meant, said, here, here_is}
 use Rattle.table.specs.declared.Step.{Step}
 use Rattle.table.proofs.Steps.{any_first, full_here}
 
 -- steps of the table that pass a test are steps that pass it
-pub any_meant : (test : Rules·Step → Bool) (steps : List Step) → list_any (λ x. test (meant x)) steps ≡ any test (map meant steps)
+pub any_said : (test : Rules·Step → Bool) (steps : List (List ℕ)) → list_any (λ x. test (said x)) steps ≡ any test (map said steps)
 unfolding any
-any_meant test [] = refl
-any_meant test (x ∷ steps) = ap (λ (b : Bool). test (meant x) || b) (any_meant test steps)
+any_said test [] = refl
+any_said test (x ∷ steps) = ap (λ (b : Bool). test (said x) || b) (any_said test steps)
 
 module _ (mode : ℕ) (task : Task) (j : Job) where
   barred_goes : goes mode task j false ≡ (not (mode =? 1 && fresh task j && any is_lock task.steps) && at_run task j)

@@ -12,7 +12,7 @@ ghost use Rattle.choice.specs.Way.{nearer, nearest, bars};
 
 use holders::{Plan, holders_of};
 use rules::{Job, Runner, State};
-use table::Task;
+use table::{Step, Task};
 
 // The semaphore in a job's way: its ceiling and the job that holds it.
 #[derive(Clone, Copy, PartialEq, Eq, Debug)]
@@ -64,14 +64,14 @@ fn way_of(plan: &Plan, hs: [u8; 16], i: u8) -> Option<Way>
 fn runs_before(task: &Task, p: usize) -> bool
     ensures { result ≡ any is_run (take p task.now.steps) }
 {
-    task.steps().iter().take(p).any(|x| x.is_run())
+    task.steps().iter().take(p).any(|x| Step::from(*x).is_run())
 }
 
 // Has a task's program a lock?
 fn has_lock(task: &Task) -> bool
     ensures { result ≡ any is_lock task.now.steps }
 {
-    task.steps().iter().any(|x| x.is_lock())
+    task.steps().iter().any(|x| Step::from(*x).is_lock())
 }
 
 // Rule 3 of a job that is not free of ceilings: it goes where it stands at a run, unless mode 1 holds it back, fresh and
@@ -128,9 +128,9 @@ fn walked(plan: &Plan, hs: [u8; 16], st: &State, from: u8) -> Runner
 // does not go in any case. The state is read where it stands: a copy for each function would take a good part of the tick.
 // Choosable stays a clause: it is true of a plan and a state at one moment of the tick, and a type for it would be made in both
 // public functions only to be taken apart in this one.
-fn chosen<F: FnOnce() -> [u8; 16]>(plan: &Plan, st: &State, find_holders: F) -> Runner
+fn chosen<F: FnOnce(&Plan) -> [u8; 16]>(plan: &Plan, st: &State, find_holders: F) -> Runner
     requires callable { F.IsAlwaysCallable find_holders }
-    requires hs_value { (hs : List ℕ) → F.post find_holders hs → hs ≡ holders plan.now st.now.tasks }
+    requires hs_value { (hs : List ℕ) → F.post find_holders plan hs → hs ≡ holders plan.now st.now.tasks }
     requires choosable { Choosable plan.now st.now.tasks }
     ensures { result ≡ runner plan.now st.now.tasks }
 {
@@ -143,7 +143,7 @@ fn chosen<F: FnOnce() -> [u8; 16]>(plan: &Plan, st: &State, find_holders: F) -> 
     if goes_barred(table.mode(), task, st.tasks[i].job) {
         return Runner::Rank(top);
     }
-    let hs = find_holders();
+    let hs = find_holders(plan);
     walked(plan, hs, st, top)
 }
 
@@ -156,7 +156,7 @@ pub fn runner_with(plan: &Plan, hs: [u8; 16], st: State) -> Runner
     chosen(
         plan,
         &st,
-        ||
+        |_|
             ensures { result ≡ hs }
         { hs },
     )
@@ -170,8 +170,8 @@ pub fn runner_of(plan: &Plan, st: State) -> Runner
     chosen(
         plan,
         &st,
-        ||
-            ensures { result ≡ holders plan.entry.now st.tasks }
+        |plan|
+            ensures { result ≡ holders plan.now st.tasks }
         { holders_of(plan.table(), st) },
     )
 }

@@ -16,7 +16,7 @@ use borrow.Author.Tests.{ltb-true, ltb-false, lt-ltb, le-ltb, lt-leb, le-leb, eq
 use Rattle.std.specs.Prelude.{if◌then◌else◌, Option, Some, None}
 use Rattle.std.specs.Slice.{IsItemAt}
 use Rattle.std.specs.List.{prefix_len}
-use Rattle.std.proofs.lemmas.List.{drop-map, length-map, length-take, length-take-le, take-append-drop, take_all, append-nil, get_or-take, get_or-map, get_or-drop, get_or_default, get_or-append_right, get_or_past}
+use Rattle.std.proofs.lemmas.List.{drop-map, drop_min, length-drop, length-map, length-take, length-take-le, take-append-drop, take_all, append-nil, get_or-take, get_or-map, get_or-drop, get_or_default, get_or-append_right, get_or_past}
 use Rattle.std.proofs.lemmas.List.Edits.{map_over_more}
 use Rattle.std.proofs.lemmas.List.Folds.{length-prefix_len}
 use Rattle.rules.specs.Words.{◌<?◌, ◌=?◌, leading}
@@ -33,27 +33,31 @@ use Rattle.rules.specs.declared.Runner.TheVariants.{Rank, Stuck, Idle}
 use Rattle.rules.proofs.Laws.{sure, below, length_row, row_at}
 use Rattle.rules.proofs.Tick.{advanced_cases, spent_at}
 use Rattle.table.proofs.Laws.{drop_past, task_read}
-use Rattle.table.specs.Steps.{meant}
-use Rattle.table.specs.declared.Step.{Step}
+use Rattle.table.specs.Steps.{said}
 use Rattle.record.specs.Room.{CountsBelow, AllBelow}
 use Rattle.effect.specs.Effect.{Rests, Quiet, blocked_once, each_blocked}
 
 -- how many steps pass from a position on, in the table and in the sheet
-prefix_len-meant : (test : Rules·Step → Bool) (xs : List Step) → prefix_len (λ x. test (meant x)) xs ≡ leading test (map meant xs)
+prefix_len-said : (test : Rules·Step → Bool) (xs : List (List ℕ)) → prefix_len (λ x. test (said x)) xs ≡ leading test (map said xs)
 unfolding leading
-prefix_len-meant test [] = refl
-prefix_len-meant test (x ∷ xs) = go (test (meant x)) (prefix_len-meant test xs)
+prefix_len-said test [] = refl
+prefix_len-said test (x ∷ xs) = go (test (said x)) (prefix_len-said test xs)
   where
-    go : (b : Bool) → prefix_len (λ x. test (meant x)) xs ≡ leading test (map meant xs)
-        → (if b then 1 + prefix_len (λ x. test (meant x)) xs else 0) ≡ (if b then suc (leading test (map meant xs)) else 0)
+    go : (b : Bool) → prefix_len (λ x. test (said x)) xs ≡ leading test (map said xs)
+        → (if b then 1 + prefix_len (λ x. test (said x)) xs else 0) ≡ (if b then suc (leading test (map said xs)) else 0)
     go true h = omega arith
     go false h = refl
 
-pub passing : (test : Rules·Step → Bool) (from : ℕ) (xs : List Step) (steps : List Rules·Step) → map meant xs ≡ steps
-    → (n : ℕ) → n ≡ length (take (prefix_len (λ x. test (meant x)) (drop from xs)) (drop from xs)) → from + n ≡ from + leading test (drop from steps)
-passing test from xs steps e n en =
-    ap (λ k. from + k) (en ∙ length-prefix_len (λ x. test (meant x)) (drop from xs) ∙ prefix_len-meant test (drop from xs)
-    ∙ ap (leading test) (sym (drop-map meant from xs) ∙ ap (drop from) e))
+-- what is cut off at a position, where the steps end before it at their end
+pub cut_from : (from : ℕ) (xs : List (List ℕ)) (n : ℕ) → n ≡ min from (length xs) → take (length xs - n) (drop n xs) ≡ drop from xs
+cut_from from xs n e =
+    take_all (length xs - n) (drop n xs) (omega (arith, length-drop n xs)) ∙ ap (λ k. drop k xs) e ∙ drop_min from xs
+
+pub passing : (test : Rules·Step → Bool) (from : ℕ) (xs ahead : List (List ℕ)) (steps : List Rules·Step) → map said xs ≡ steps → ahead ≡ drop from xs
+    → (n : ℕ) → n ≡ length (take (prefix_len (λ x. test (said x)) ahead) ahead) → from + n ≡ from + leading test (drop from steps)
+passing test from xs ahead steps e behind n en =
+    ap (λ k. from + k) (en ∙ length-prefix_len (λ x. test (said x)) ahead ∙ prefix_len-said test ahead ∙ ap (λ ys. leading test (map said ys)) behind
+    ∙ ap (leading test) (sym (drop-map said from xs) ∙ ap (drop from) e))
 
 -- what a look at a rank finds in the table's tasks
 pub task_found : (sheet : Sheet) (tasks : List Task) (i : ℕ) (r : Option (Bor Task)) → tasks ≡ sheet.tasks → IsItemAt tasks i r

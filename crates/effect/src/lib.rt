@@ -84,12 +84,9 @@ fn past<F: Fn(Step) -> bool>(task: &Task, from: usize, passes: F) -> usize
     ensures value { (test : Rules·Step → Bool) → Tells (F.post passes) test → result ≡ from + leading test (drop from task.now.steps) }
     ensures within { result ≤ max from 64 }
 {
-    from + task
-        .steps()
-        .iter()
-        .skip(from)
-        .take_while(|x| passes(**x))
-        .count()
+    let steps = task.steps();
+    let ahead = &steps[from.min(steps.len())..];
+    from + ahead.iter().take_while(|x| passes(Step::from(**x))).count()
 }
 
 // Rule 5: the ticks left of the next run, which stands at p.

@@ -85,6 +85,16 @@ module _ {sheet : Sheet} {st a : State} (α : Released sheet st a) where
     pub runner_inside : (i : ℕ) → x ≡ Rank i → i < length sheet.tasks
     runner_inside i z = (may_run α.ready.accepted.0 sheet α.ready.accepted.1 st (parts α.ready) i (chosen ∙ z)).rank
 
+-- the parts of a tick are the tick
+pub tick_parts : (sheet : Sheet) (st a b r : State) (x : Runner) (last : LastJob) → a ≡ with_tasks st (after_releases sheet st) → x ≡ runner sheet a.tasks → last ≡ ran_last x a.tasks a.last
+    → b ≡ with_tasks a (after_runner x sheet a.t a.tasks) → r ≡ closed b last b.tasks → r ≡ tick sheet st
+unfolding tick runner_of closed
+tick_parts sheet st a b r x last ea ex el eb er =
+    let rs = after_releases sheet st in
+    er ∙ ap (λ (y : State). closed y last y.tasks) (eb ∙ ap (λ (y : State). with_tasks y (after_runner x sheet y.t y.tasks)) ea)
+    ∙ ap (λ (j : LastJob). closed st j (after_runner x sheet st.t rs)) (el ∙ ap (λ (y : State). ran_last x y.tasks y.last) ea)
+    ∙ ap (λ (y : Runner). closed st (ran_last y rs st.last) (after_runner y sheet st.t rs)) (ex ∙ ap (λ (y : State). runner sheet y.tasks) ea)
+
 -- and after the runner
 pub record Spent (sheet : Sheet) (st a : State) (x : Runner) (b : State) : Type 0 where
   pub released : Released sheet st a
@@ -132,13 +142,8 @@ module _ {sheet : Sheet} {st a b : State} {x : Runner} (β : Spent sheet st a x 
   sized_spent = ap (λ (y : State). length y.tasks) whole ∙ length_row 16 _
 
   module _ {last : LastJob} {next : State} (el : last ≡ ran_last x a.tasks a.last) (er : next ≡ closed b last b.tasks) where
-    -- the parts are the tick
     pub tick_value : next ≡ tick sheet st
-    unfolding tick runner_of closed
-    tick_value =
-        er ∙ ap (λ (y : State). closed y last y.tasks) whole
-        ∙ ap (λ (j : LastJob). closed st j (after_runner x sheet st.t rs)) (el ∙ ap (λ (y : State). ran_last x y.tasks y.last) β.released.value)
-        ∙ ap (λ (y : Runner). closed st (ran_last y rs st.last) (after_runner y sheet st.t rs)) (sym (chosen β.released β.chosen))
+    tick_value = tick_parts sheet st a b next x last β.released.value β.chosen el β.value er
 
     records_stay : next.tasks ≡ b.tasks
     unfolding closed

@@ -102,7 +102,7 @@ impl Run {
             let before = self.state.tasks[i].job;
             self.state = effect::after_runner(table, x, self.state);
             let after = self.state.tasks[i].job;
-            let held = holders::holders_after(task, rank, before, after, self.holders);
+            let held = holders::holders_after(task.steps(), rank, before, after, self.holders);
             self.holders = held;
         }
     }

@@ -12,9 +12,8 @@ use Rattle.rules.specs.Record.{record_at, behind, carries, holds}
 use Rattle.rules.specs.Choice.{locks, ceiling}
 use Rattle.rules.specs.declared.TaskRecord.{TaskRecord}
 use Rattle.rules.proofs.Laws.{sure, below, and_no, length_row, row_at, smallest_found, smallest_there, smallest_le, smallest_none, row_same}
-use Rattle.table.specs.Steps.{meant}
+use Rattle.table.specs.Steps.{meant, said}
 use Rattle.table.specs.declared.Step.{Step as Table·Step}
-use Rattle.table.specs.declared.Step.TheVariants.{Run}
 use Rattle.table.proofs.Laws.{drop_past, task_read}
 use Rattle.holders.specs.Holders.{holder, holders, first_with, entry_after, after_step, after_steps, after_job, only_locks}
 
@@ -164,14 +163,14 @@ module _ (sheet : Sheet) (tasks : List Task) (same : tasks ≡ sheet.tasks) (few
           h ∙ ap₂ (λ (task : Task) (hs : List ℕ). after_job i task (get_or records i blank).job hs) (task_read sheet tasks same i l task is) inv ∙ job_held sheet records i (omega arith)
 
       -- a pending job has passed the steps before its position
-      pub job_holds : (get_or records i blank).job.pending ≡ true → (passed : List ℕ)
-          → passed ≡ after_steps i (take ((get_or records i blank).job.position - 0) task.steps) hs → more ≡ passed
+      pub job_holds : (get_or records i blank).job.pending ≡ true → (steps : List (List ℕ)) → map said steps ≡ task.steps → (passed : List ℕ)
+          → passed ≡ after_steps i (take ((get_or records i blank).job.position - 0) (map said steps)) hs → more ≡ passed
           → more ≡ row 16 (first_with (holds sheet records) (i + 1) [])
       unfolding after_job behind
-      job_holds p passed h e =
+      job_holds p steps es passed h e =
           let j = (get_or records i blank).job in
           let z : j.position - 0 ≡ j.position = omega arith in
-          ranked (rw p (e ∙ h ∙ ap (λ (n : ℕ). after_steps i (take n task.steps) hs) z))
+          ranked (rw p (e ∙ h ∙ ap₂ (λ (n : ℕ) (steps : List Step). after_steps i (take n steps) hs) z es))
 
       pub job_rests : (get_or records i blank).job.pending ≡ false → more ≡ hs → more ≡ row 16 (first_with (holds sheet records) (i + 1) [])
       unfolding after_job
@@ -214,8 +213,8 @@ has_lock sheet j s = locks (task_at sheet j) s
 -- the loops over the ranks and their steps
 module _ (sheet : Sheet) (tasks : List Task) (same : tasks ≡ sheet.tasks) (few : length tasks ≤ 16) (i : ℕ) where
   module _ (cs : List ℕ) (inv : cs ≡ row 16 (first_with (has_lock sheet) i [])) where
-    pub ceilings_more : i < length tasks → (task : Task) → task ≡ get_or tasks i task → (steps : List Table·Step) → map meant steps ≡ task.steps
-        → after_steps i (only_locks (map meant steps)) cs ≡ row 16 (first_with (has_lock sheet) (i + 1) [])
+    pub ceilings_more : i < length tasks → (task : Task) → task ≡ get_or tasks i task → (steps : List (List ℕ)) → map said steps ≡ task.steps
+        → after_steps i (only_locks (map said steps)) cs ≡ row 16 (first_with (has_lock sheet) (i + 1) [])
     unfolding locks held among any
     ceilings_more l task is steps e =
         let own = (task_at sheet i).steps in
@@ -230,16 +229,16 @@ module _ (sheet : Sheet) (tasks : List Task) (same : tasks ≡ sheet.tasks) (few
         inv ∙ ranks_all (has_lock sheet) i (omega arith) (λ j k m. ap (λ (t : Task). locks t k) (get_or-eq_default sheet.tasks no_task (omega arith)))
 
 -- within a rank
-module _ (i : ℕ) (steps : List Table·Step) (p : ℕ) (cs found : List ℕ) (inv : after_steps i (only_locks (map meant (drop p steps))) cs ≡ found) where
-  module _ (l : p < length steps) (b : Bool) (e : b ≡ is_lock (meant (get_or steps p (Run 0)))) where
-    goes_on : after_steps i (only_locks (map meant (drop (p + 1) steps))) (if b then after_step i (meant (get_or steps p (Run 0))) cs else cs) ≡ found
-    goes_on = rw (e, add-one p) (sym (locks_first i (meant (get_or steps p (Run 0))) (map meant (drop (suc p) steps)) cs) ∙ rw (drop-cons steps p (Run 0) l) at inv)
+module _ (i : ℕ) (steps : List (List ℕ)) (p : ℕ) (cs found : List ℕ) (inv : after_steps i (only_locks (map said (drop p steps))) cs ≡ found) where
+  module _ (l : p < length steps) (x : Table·Step) (d : List ℕ) (is : meant x ≡ said (get_or steps p d)) (b : Bool) (e : b ≡ is_lock (meant x)) where
+    goes_on : after_steps i (only_locks (map said (drop (p + 1) steps))) (if b then after_step i (meant x) cs else cs) ≡ found
+    goes_on = rw (e, is, add-one p) (sym (locks_first i (said (get_or steps p d)) (map said (drop (suc p) steps)) cs) ∙ rw (drop-cons steps p d l) at inv)
 
-    pub locks_more : b ≡ true → (next : List ℕ) → next ≡ after_step i (meant (get_or steps p (Run 0))) cs → (new : List ℕ) → new ≡ next
-        → after_steps i (only_locks (map meant (drop (p + 1) steps))) new ≡ found
+    pub locks_more : b ≡ true → (next : List ℕ) → next ≡ after_step i (meant x) cs → (new : List ℕ) → new ≡ next
+        → after_steps i (only_locks (map said (drop (p + 1) steps))) new ≡ found
     locks_more u next en new e = rw (e, en) (rw u at goes_on)
 
-    pub locks_same : b ≡ false → (new : List ℕ) → new ≡ cs → after_steps i (only_locks (map meant (drop (p + 1) steps))) new ≡ found
+    pub locks_same : b ≡ false → (new : List ℕ) → new ≡ cs → after_steps i (only_locks (map said (drop (p + 1) steps))) new ≡ found
     locks_same u new e = rw e (rw u at goes_on)
 
   pub locks_all : length steps ≤ p → cs ≡ found

@@ -1,16 +1,21 @@
 -- Laws of the sixteen entries along steps, as the code goes.
-use Rattle.std.proofs.Common.{ℕ, suc, ◌+◌, ◌-◌, ◌≤◌, ◌<◌, ◌≡◌, refl, sym, ap, ◌∙◌, subst, List, [], Bool, true, false, map, ⊎_elim, get_or, set, length, take, drop, min, if◌then◌else◌, arith, add-one}
-use Rattle.std.proofs.lemmas.List.{set-get_or, take-map, drop-map, take_min, get_or-take, get_or-drop, length-take, length-drop}
+use Rattle.std.proofs.Common.{ℕ, zero, suc, ◌+◌, ◌-◌, ◌≤◌, ◌<◌, ◌≡◌, refl, sym, ap, ◌∙◌, List, [], ◌∷◌, Bool, true, false, map, ⊎_elim, get_or, set, length, take, drop, min, if◌then◌else◌, arith, add-one}
+use Rattle.std.proofs.lemmas.List.{set-get_or, take-map, drop-map, take_min, length-drop}
 use Rattle.std.proofs.Math.Seq.{drop-cons, take-nil}
 use Rattle.rules.specs.Words.{◌=?◌}
 use Rattle.rules.specs.Sheet.{Step as Rules·Step}
-use Rattle.rules.specs.Laws.{All, StepLimits}
-use Rattle.rules.proofs.Laws.{below, all_drop}
-use Rattle.table.specs.Steps.{meant}
+use Rattle.rules.proofs.Laws.{below}
+use Rattle.table.specs.Steps.{meant, said}
 use Rattle.table.specs.declared.Step.{Step}
 use Rattle.table.specs.declared.Step.TheVariants.{Run, Lock, Unlock}
 use Rattle.table.proofs.Laws.{drop_past}
 use Rattle.holders.specs.Holders.{entry_after, after_step, after_steps}
+
+-- an entry past the end stays as it is
+set_past : (hs : List ℕ) (s x : ℕ) → length hs ≤ s → set hs s x ≡ hs
+set_past [] s x l = refl
+set_past (h ∷ hs) zero x l = absurd (omega arith)
+set_past (h ∷ hs) (suc s) x l = ap (◌∷◌ h) (set_past hs s x (omega arith))
 
 -- a step, by its kind
 pub step_by : (i : ℕ) (x : Step) (hs : List ℕ) → after_step i (meant x) hs
@@ -27,6 +32,15 @@ step_by i (Unlock s) hs = entry (get_or hs s 0 =? i)
     entry : (b : Bool) → set hs s (if b then 255 else get_or hs s 0) ≡ (if b then set hs s 255 else hs)
     entry true = refl
     entry false = set-get_or hs s 0
+
+-- and of a semaphore past the last entry
+pub past_lock : (i s : ℕ) (x : Step) (hs : List ℕ) → x ≡ Lock s → length hs ≤ s → hs ≡ after_step i (meant x) hs
+unfolding after_step
+past_lock i s x hs e l = rw e (sym (set_past hs s _ l))
+
+pub past_unlock : (i s : ℕ) (x : Step) (hs : List ℕ) → x ≡ Unlock s → length hs ≤ s → hs ≡ after_step i (meant x) hs
+unfolding after_step
+past_unlock i s x hs e l = rw e (sym (set_past hs s _ l))
 
 -- the steps from one position to another, cut where there are fewer
 module _ {A : Type 0} (xs : List A) (from to end start : ℕ) (e : end ≡ min to (length xs)) (b : start ≡ min from end) where
@@ -45,37 +59,24 @@ module _ {A : Type 0} (xs : List A) (from to end start : ℕ) (e : end ≡ min t
       (λ (l : end ≤ from). let none : end - start ≡ 0 = omega arith in rw none (nothing l))
       (below from end)
 
--- those steps of a task, with document 01's limits
-module _ (steps : List Step) (told : List Rules·Step) (e : map meant steps ≡ told) where
-  pub limits_at : (p : ℕ) → p < length steps → All (StepLimits 16) told → StepLimits 16 (meant (get_or steps p (Run 0)))
-  limits_at p l a =
-      (subst (All (StepLimits 16)) (ap (drop p) (sym e) ∙ drop-map meant p steps ∙ ap (map meant) (drop-cons steps p (Run 0) l)) (all_drop (StepLimits 16) p told a)).0
-
-  module _ (n start p : ℕ) (l : p < length (take n (drop start steps))) where
-    pub limits_cut : All (StepLimits 16) told → StepLimits 16 (meant (get_or (take n (drop start steps)) p (Run 0)))
-    limits_cut a =
-        let few = length-take n (drop start steps) in
-        let more = length-drop start steps in
-        rw (get_or-take n (drop start steps) p (Run 0) (omega arith), get_or-drop start steps p (Run 0)) (limits_at (start + p) (omega arith) a)
-
 -- along steps: those passed, and those ahead
-module _ (i : ℕ) (steps : List Step) (p : ℕ) (hs found : List ℕ) (inv : after_steps i (map meant (drop p steps)) hs ≡ found) where
-  pub pass_more : p < length steps → (next : List ℕ) → next ≡ after_step i (meant (get_or steps p (Run 0))) hs
-      → after_steps i (map meant (drop (p + 1) steps)) next ≡ found
+module _ (i : ℕ) (steps : List (List ℕ)) (p : ℕ) (hs found : List ℕ) (inv : after_steps i (map said (drop p steps)) hs ≡ found) where
+  pub pass_more : p < length steps → (x : Step) (d : List ℕ) → meant x ≡ said (get_or steps p d)
+      → (next : List ℕ) → next ≡ after_step i (meant x) hs → after_steps i (map said (drop (p + 1) steps)) next ≡ found
   unfolding after_steps
-  pass_more l next e = rw (e, add-one p) (rw (drop-cons steps p (Run 0) l) at inv)
+  pass_more l x d is next e = rw (e, is, add-one p) (rw (drop-cons steps p d l) at inv)
 
   passed : length steps ≤ p → hs ≡ found
   unfolding after_steps
   passed l = rw (drop_past steps p l) at inv
 
 -- all of them
-module _ (i : ℕ) (steps : List Step) (told : List Rules·Step) (e : map meant steps ≡ told) (from to end start : ℕ) (b : end ≡ min to (length steps)) (f : start ≡ min from end) where
+module _ (i : ℕ) (steps : List (List ℕ)) (from to end start : ℕ) (b : end ≡ min to (length steps)) (f : start ≡ min from end) where
   pub pass_all : (p : ℕ) (hs before : List ℕ)
-      → after_steps i (map meant (drop p (take (end - start) (drop start steps)))) hs ≡ after_steps i (map meant (take (end - start) (drop start steps))) before
+      → after_steps i (map said (drop p (take (end - start) (drop start steps)))) hs ≡ after_steps i (map said (take (end - start) (drop start steps))) before
       → length (take (end - start) (drop start steps)) ≤ p
-      → hs ≡ after_steps i (take (to - from) (drop from told)) before
+      → hs ≡ after_steps i (take (to - from) (drop from (map said steps))) before
   pass_all p hs before inv l =
       passed i (take (end - start) (drop start steps)) p hs _ inv l
       ∙ ap (λ (xs : List Rules·Step). after_steps i xs before)
-      (ap (map meant) (cut steps from to end start b f) ∙ sym (take-map meant (to - from) (drop from steps)) ∙ ap (take (to - from)) (sym (drop-map meant from steps) ∙ ap (drop from) e))
+      (ap (map said) (cut steps from to end start b f) ∙ sym (take-map said (to - from) (drop from steps)) ∙ ap (take (to - from)) (sym (drop-map said from steps)))

@@ -2,54 +2,52 @@
 // no option: document 01's `ceiling` says so, and the call `ceilings` answers it.
 #![tactic(auto)]
 
-ghost use Rattle.std.specs.Prelude.{◌≡◌, ◌-◌, take, drop};
+ghost use Rattle.std.specs.Prelude.{◌≡◌, ◌-◌, take, drop, map};
 ghost use Rattle.rules.specs.Words.{row};
+ghost use Rattle.rules.specs.Sheet.{Task as Rules·Task};
 ghost use Rattle.rules.specs.Choice.{ceiling};
-ghost use Rattle.rules.specs.Laws.{StepLimits};
-ghost use Rattle.table.specs.Steps.{meant};
+ghost use Rattle.table.specs.Steps.{meant, said};
 ghost use Rattle.holders.specs.Holders.{holders, after_step, after_steps, after_tick};
 
 use rules::{Job, State};
 use std::marker::Model;
-use table::{Step, Table, Task};
+use table::{Step, Table};
 
-// A step of rank i: a lock takes what nobody has, an unlock gives back what is its own.
+// A step of rank i: a lock takes what nobody has, an unlock gives back what is its own. A semaphore past the sixteenth has no entry.
 #[tactic(auto, using(crate::proofs::Steps::step_by))]
 fn pass_step(x: Step, i: u8, hs: &mut [u8; 16])
-    requires { StepLimits 16 (meant x) }
     ensures { hs.new ≡ after_step i (meant x) hs.old }
 {
     match x {
-        Step::Run(_) => {}
-        Step::Lock(s) => {
+        Step::Lock(s) if s < 16 => {
             if hs[s as usize] == 255 {
                 hs[s as usize] = i;
             }
         }
-        Step::Unlock(s) => {
+        Step::Unlock(s) if s < 16 => {
             if hs[s as usize] == i {
                 hs[s as usize] = 255;
             }
         }
+        _ => {}
     }
 }
 
 // The steps of rank i from one position to another.
-fn pass(task: &Task, from: usize, to: usize, i: u8, hs: &mut [u8; 16])
-    ensures { hs.new ≡ after_steps i (take (to - from) (drop from task.now.steps)) hs.old }
+fn pass(steps: &[[u8; 3]], from: usize, to: usize, i: u8, hs: &mut [u8; 16])
+    ensures { hs.new ≡ after_steps i (take (to - from) (drop from (map said steps.now))) hs.old }
 {
-    let steps = task.steps();
     let end = to.min(steps.len());
     for x in &steps[from.min(end)..end] {
-        pass_step(*x, i, hs);
+        pass_step(Step::from(*x), i, hs);
     }
 }
 
 // The same, of the entries by value.
-pub fn after_steps(task: &Task, from: usize, to: usize, i: u8, mut hs: [u8; 16]) -> [u8; 16]
-    ensures { result ≡ after_steps i (take (to - from) (drop from task.now.steps)) hs }
+pub fn after_steps(steps: &[[u8; 3]], from: usize, to: usize, i: u8, mut hs: [u8; 16]) -> [u8; 16]
+    ensures { result ≡ after_steps i (take (to - from) (drop from (map said steps.now))) hs }
 {
-    pass(task, from, to, i, &mut hs);
+    pass(steps, from, to, i, &mut hs);
     hs
 }
 
@@ -61,23 +59,23 @@ pub fn holders_of(table: &Table, st: State) -> [u8; 16]
     for (i, task) in table.tasks().iter().enumerate() {
         let j = st.tasks[i].job;
         if j.pending {
-            pass(task, 0, j.position as usize, i as u8, &mut hs);
+            pass(task.steps(), 0, j.position as usize, i as u8, &mut hs);
         }
     }
     hs
 }
 
-// The holders after the tick of a runner of rank i, from those before it and its job before and after.
+// The holders after the tick of a runner of rank i, from its steps, the holders before it and its job before and after.
 #[tactic(auto, unfolding(crate::specs::Holders::after_tick, crate::specs::Holders::reached))]
-pub fn holders_after(task: &Task, i: u8, before: Job, after: Job, hs: [u8; 16]) -> [u8; 16]
-    ensures { result ≡ after_tick i task.now before after hs }
+pub fn holders_after(steps: &[[u8; 3]], i: u8, before: Job, after: Job, hs: [u8; 16]) -> [u8; 16]
+    ensures { (task : Rules·Task) → task.steps ≡ map said steps.now → result ≡ after_tick i task before after hs }
 {
     let to = if after.pending {
         after.position as usize
     } else {
-        task.count()
+        steps.len()
     };
-    after_steps(task, before.position as usize, to, i, hs)
+    after_steps(steps, before.position as usize, to, i, hs)
 }
 
 // The ceiling of each semaphore: the smallest rank that has a lock of it; 255 if none.
@@ -87,9 +85,10 @@ pub fn ceilings_of(table: &Table) -> [u8; 16]
     let mut cs = [255; 16];
     for (i, task) in table.tasks().iter().enumerate() {
         for x in task.steps() {
+            let step = Step::from(*x);
             // a lock takes what no smaller rank has
-            if x.is_lock() {
-                pass_step(*x, i as u8, &mut cs);
+            if step.is_lock() {
+                pass_step(step, i as u8, &mut cs);
             }
         }
     }
@@ -98,12 +97,12 @@ pub fn ceilings_of(table: &Table) -> [u8; 16]
 
 // A table with its ceilings.
 #[derive(Drop)]
-pub struct Plan {
-    table: Table,
+pub struct Plan<'a> {
+    table: Table<'a>,
     ceilings: [u8; 16],
 }
 
-impl Model for Plan {
+impl<'a> Model for Plan<'a> {
     ghost use Rattle.std.specs.Prelude.{◌≡◌};
     ghost use Rattle.rules.specs.Sheet.{Sheet};
     ghost use Rattle.rules.specs.Words.{row};
@@ -116,15 +115,15 @@ impl Model for Plan {
     ghost invariant = { λ p. p.ceilings ≡ row 16 (ceiling p.table) };
 }
 
-impl Plan {
-    pub fn new(table: Table) -> Plan
-        ensures { result ≡ table }
+impl<'a> Plan<'a> {
+    pub fn new(table: Table<'a>) -> Plan<'a>
+        ensures { result ≡ table.entry }
     {
         let ceilings = ceilings_of(&table);
         Plan { table, ceilings }
     }
 
-    pub fn table(&self) -> &Table
+    pub fn table(&self) -> &Table<'a>
         ensures { result.now ≡ self.now }
     {
         &self.table

@@ -1,5 +1,5 @@
 -- Laws of what is held: by one job alone, against the holders, and none by two.
-use Rattle.std.proofs.Common.{ℕ, ◌+◌, ◌-◌, ◌≤◌, ◌<◌, ◌≡◌, refl, sym, ap, ◌∙◌, ⊎_elim, List, [], Bool, true, false, not, ◌&&◌, length, get_or, take, replicate, arith, if◌then◌else◌}
+use Rattle.std.proofs.Common.{ℕ, ◌+◌, ◌-◌, ◌≤◌, ◌<◌, ◌≡◌, refl, sym, ap, ◌∙◌, ⊎_elim, List, [], Bool, true, false, not, ◌&&◌, length, get_or, take, map, replicate, arith, if◌then◌else◌}
 use borrow.Author.Tests.{eq-eqb, ne_eqb, eqb-true, eqb-false, not-true, not-false}
 use Rattle.rules.specs.Words.{◌=?◌, ◌⇒◌, row, any, among}
 use Rattle.rules.specs.Sheet.{Step, Task, Sheet, task_at, held}
@@ -8,6 +8,7 @@ use Rattle.rules.specs.Record.{record_at, behind, carries, holds, none_held_by_t
 use Rattle.rules.specs.declared.Job.{Job}
 use Rattle.rules.specs.declared.TaskRecord.{TaskRecord}
 use Rattle.rules.proofs.Laws.{sure, below, and_at, true_false, and_left, and_right, and_both, implied, implies_no, implies_yes, denied, every_same, every_at, every_of, not_every, every_no, row_at, smallest_le, smallest_there, smallest_none, row_same}
+use Rattle.table.specs.Steps.{said}
 use Rattle.table.proofs.Laws.{task_read}
 use Rattle.holders.specs.Holders.{holder, holders, first_with, after_steps}
 use Rattle.holders.proofs.Holders.{stepped, holds_past, holder_at}
@@ -37,12 +38,13 @@ module _ (i : ℕ) (task : Task) (j : Job) (hs : List ℕ) where
   unfolding holds_alone carries
   rests_alone h = h ∙ sym (every_of 16 _ (λ s m. rw (not-true j.pending h) refl))
 
-  pub stands_alone : not j.pending ≡ false → i < 255 → (own : List ℕ) → own ≡ after_steps i (take (j.position - 0) task.steps) (replicate 16 255)
+  pub stands_alone : not j.pending ≡ false → i < 255 → (steps : List (List ℕ)) → map said steps ≡ task.steps
+      → (own : List ℕ) → own ≡ after_steps i (take (j.position - 0) (map said steps)) (replicate 16 255)
       → (b : Bool) → b ≡ same_holders own hs → b ≡ holds_alone i task j hs
   unfolding same_holders holds_alone carries behind alone
-  stands_alone h l own eo b eb = eb ∙ every_same 16 _ _ (λ s m.
+  stands_alone h l steps es own eo b eb = eb ∙ every_same 16 _ _ (λ s m.
       let z : j.position - 0 ≡ j.position = omega arith in
-      let at : own ≡ row 16 (alone i (held (behind task j))) = eo ∙ steps_alone i l (take (j.position - 0) task.steps) ∙ ap (λ (n : ℕ). row 16 (alone i (held (take n task.steps)))) z in
+      let at : own ≡ row 16 (alone i (held (behind task j))) = eo ∙ ap (λ (xs : List Step). after_steps i (take (j.position - 0) xs) (replicate 16 255)) es ∙ steps_alone i l (take (j.position - 0) task.steps) ∙ ap (λ (n : ℕ). row 16 (alone i (held (take n task.steps)))) z in
       let own-s = ap (λ (o : List ℕ). get_or o s 0) at ∙ row_at 16 (alone i (held (behind task j))) 0 s m in
       ap (λ (o : ℕ). same_holder o (get_or hs s 0)) own-s
       ∙ same_alone i l (among s (held (behind task j))) (get_or hs s 0)

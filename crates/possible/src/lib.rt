@@ -56,6 +56,7 @@ fn present_fits(t: u16, x: TaskRecord) -> bool
 }
 
 // a job fits its task, and records at n and above are zero;
+#[tactic(auto, using(crate::proofs::Fits::past_last))]
 fn rank_fits(table: &Table, t: u16, i: usize, x: TaskRecord) -> bool
     ensures { result ≡ job_fits t (task_at table.now i) x.job && (length table.now.tasks ≤? i ⇒ zero_record x) }
 {
@@ -96,7 +97,8 @@ fn holds_alone(task: &Task, j: Job, i: u8, hs: [u8; 16]) -> bool
     requires { i < 255 }
     ensures { result ≡ holds_alone i task.now j hs }
 {
-    !j.pending || same_holders(after_steps(task, 0, j.position as usize, i, [255; 16]), hs)
+    let steps = task.steps();
+    !j.pending || same_holders(after_steps(steps, 0, j.position as usize, i, [255; 16]), hs)
 }
 
 // no semaphore is held by two: where two hold one, the holder is only one of them.

@@ -10,7 +10,7 @@ use Rattle.rules.specs.Reading.{Numbers}
 use Rattle.rules.specs.Choice.{runner_byte}
 use Rattle.rules.specs.Answers.{Checked, Told}
 use Rattle.rules.specs.Coded.{numbers, said, field, checked, ceilings_in, bounds_in, laxities_in, told_byte, told_in, ticked_in, ran_in}
-use Rattle.rules.specs.Laws.{LosesNothing, TieLosesNothing}
+use Rattle.rules.specs.Laws.{LosesNothing, TieLosesNothing, RefusedAreZero}
 use Rattle.rules.specs.declared.Head.{Head}
 use Rattle.rules.specs.declared.Runner.{Runner}
 use Rattle.rules.specs.declared.Runner.TheVariants.{Rank, Stuck, Idle}
@@ -144,4 +144,14 @@ tie_loses_nothing = record {
   of_told = kept told_in told_of told_back;
   of_tick = kept ticked_in (λ r. record { told = told_of r.told; state = r.state }) (λ a. ap (λ r. record { told = r; state = a.state }) (told_back a.told));
   of_run = kept ran_in (λ r. answer_of r.refusal r.state) (answer_back _);
+}
+
+pub refused_are_zero : RefusedAreZero
+refused_are_zero = record {
+  of_check = λ x. refl;
+  of_ceilings = λ x. refl;
+  of_bounds = λ x. refl;
+  of_laxities = λ x. refl;
+  of_told = λ x. refl;
+  of_run = λ x. refl;
 }

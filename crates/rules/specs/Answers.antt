@@ -1,5 +1,5 @@
 -- WHAT EACH CALL ANSWERS, refused calls too.
-use Rattle.std.specs.Prelude.{ℕ, List, true, false, not, None, length, replicate, pos, if◌then◌else◌}
+use Rattle.std.specs.Prelude.{ℕ, List, not, None, length, replicate, pos, if◌then◌else◌}
 use Rattle.rules.specs.Words.{◌<?◌, ◌=?◌, row}
 use Rattle.rules.specs.Sheet.{Sheet}
 use Rattle.rules.specs.Reading.{Numbers, Reading, read, refused, refusal, refuse◌when◌, ◌>>=◌, ◌>>◌, read_sheet}
@@ -10,7 +10,6 @@ use Rattle.rules.specs.Tick.{runner_of, tick}
 use Rattle.rules.specs.Run.{after, written}
 use Rattle.rules.specs.Bounds.{bound, bound_by, laxity}
 use Rattle.rules.specs.declared.State.{State}
-use Rattle.rules.specs.declared.Section.{Section}
 use Rattle.rules.specs.declared.Bound.{Bound}
 use Rattle.rules.specs.declared.Laxity.{Laxity}
 

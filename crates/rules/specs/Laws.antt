@@ -1,17 +1,19 @@
--- WHAT FOLLOWS: laws that make the definitions trustworthy. Each is proved in proofs/.
-use Rattle.std.specs.Prelude.{ℕ, ◌*◌, ◌≤◌, ◌<◌, ◌≡◌, ◌⊎◌, ◌↔◌, List, [], ◌∷◌, ◌++◌, Bool, true, false, not, ◌&&◌, length, take, ℤ, pos, negsuc, Option, Some, None}
+-- WHAT FOLLOWS: laws that make the definitions trustworthy. Each is proved in proofs/, but LaxitiesNear in
+-- crates/analysis/proofs.
+use Rattle.std.specs.Prelude.{ℕ, ◌*◌, ◌^◌, ◌≤◌, ◌<◌, ◌≡◌, ◌⊎◌, ◌↔◌, List, [], ◌∷◌, ◌++◌, Bool, true, false, not, ◌&&◌, length, take, replicate, ℤ, pos, negsuc, Option, Some, None, Err}
 use Rattle.std.specs.Int.Signed.{non_neg}
+use Rattle.std.specs.Int.RustNames.{unsigned_abs}
 use Rattle.rules.specs.Words.{◌≤?◌, any, leading}
 use Rattle.rules.specs.Sheet.{Step, run, lock, unlock, Task, Sheet, task_at, Body, is_lock, is_lock_of, held}
 use Rattle.rules.specs.Reading.{Reading, read, refused, longest_sheet, misplaced, read_sheet, Numbers}
-use Rattle.rules.specs.Fields.{start}
+use Rattle.rules.specs.Fields.{start, no_state}
 use Rattle.rules.specs.Record.{record_at, ahead, possible}
 use Rattle.rules.specs.Choice.{runner_byte, Walks, top_job, held_by_other, runner}
 use Rattle.rules.specs.declared.Runner.{Runner}
 use Rattle.rules.specs.declared.Runner.TheVariants.{Rank}
 use Rattle.rules.specs.Tick.{after_releases, runner_of, tick}
 use Rattle.rules.specs.Bounds.{section_length, steps_from, is_counted, bound, bound_by, rounded_up, demand, slack, laxity}
-use Rattle.rules.specs.Answers.{read_tick, read_run}
+use Rattle.rules.specs.Answers.{read_tick, read_run, no_bound, no_laxity}
 use Rattle.rules.specs.Coded.{numbers, checked, ceilings_in, bounds_in, laxities_in, told_byte, told_in, ticked_in, ran_in}
 use Rattle.rules.specs.declared.Refusal.{Refusal}
 use Rattle.rules.specs.declared.Section.{Section}
@@ -65,6 +67,11 @@ pub record Limits (bytes : List ℕ) (sheet : Sheet) : Type 0 where
 abbrev pub AcceptedWithinLimits : Type 0
 AcceptedWithinLimits = (bytes : List ℕ) (sheet : Sheet) → read_sheet bytes ≡ read sheet → Limits bytes sheet
 
+-- The laxities of an accepted sheet are within 32 bits.
+abbrev pub LaxitiesNear : Type 0
+LaxitiesNear = (bytes : List ℕ) (sheet : Sheet) → read_sheet bytes ≡ read sheet → (i : ℕ) → i < length sheet.tasks
+    → unsigned_abs (laxity sheet i) < 2 ^ 32
+
 -- A refusal gives its number, 1 to 17, the task's rank (7 to 12, else 0) and the step's index (11 and 12, else 0). A rank is
 -- below 16, and a step is at most 64, which is a step count where sections are open.
 pub record Given (x : Numbers) : Type 0 where
@@ -103,6 +110,15 @@ pub record TieLosesNothing : Type 0 where
   pub of_told : LosesNothing told_in
   pub of_tick : LosesNothing ticked_in
   pub of_run : LosesNothing ran_in
+
+-- Beside a refusal all other fields are zero.
+pub record RefusedAreZero : Type 0 where
+  pub of_check : (x : Refusal) → checked (Err x) ≡ record { refusal = numbers x; tasks = 0; semaphores = 0; mode = 0 }
+  pub of_ceilings : (x : Refusal) → ceilings_in (Err x) ≡ record { refusal = numbers x; ceilings = replicate 16 0 }
+  pub of_bounds : (x : Refusal) → bounds_in (Err x) ≡ record { refusal = numbers x; bounds = replicate 16 no_bound }
+  pub of_laxities : (x : Refusal) → laxities_in (Err x) ≡ record { refusal = numbers x; laxities = replicate 16 no_laxity }
+  pub of_told : (x : Refusal) → told_in (Err x) ≡ record { refusal = numbers x; runner = 0 }
+  pub of_run : (x : Refusal) → ran_in (Err x) ≡ record { refusal = numbers x; state = no_state }
 
 -- Rule 4 as computed finds what document 01 says: the first candidate that may go, or a candidate that comes round again.
 abbrev pub WalksToRunner : Type 0

@@ -3,7 +3,7 @@
 // a refusal: specs/Reader.antt says what the answers mean, and what is read stands in the rules.
 #![tactic(auto)]
 
-ghost use Rattle.std.specs.Prelude.{◌≡◌, ◌*◌, ◌≤◌, List, length, false, IfOk};
+ghost use Rattle.std.specs.Prelude.{◌≡◌, ◌*◌, ◌≤◌, List, [], length, false, IfOk};
 ghost use Rattle.rules.specs.Sheet.{Step as Rules·Step};
 ghost use Rattle.rules.specs.Reading.{read_head, head_length, read_task_head, misplaced_in, read_step, read_task, read_tasks, read_sheet};
 ghost use Rattle.rules.specs.Laws.{StepLimits};
@@ -142,31 +142,35 @@ fn read_step<'a>(
     Ok((step, rest))
 }
 
-// The steps of task i, one by one; at the end 12 for sections open.
+// The steps of task i, one by one; at the end 12 for sections open. The task has them where they stand.
 #[tactic(auto, using(crate::proofs::Steps::steps_in_turn), unfolding(crate::specs::Reader::steps_there))]
-fn read_steps(m: u8, i: u8, own: TaskHead, bytes: &[u8]) -> Result<(Task, &[u8]), Refusal>
+fn read_steps<'a>(
+    m: u8,
+    i: u8,
+    own: TaskHead,
+    bytes: &'a [u8],
+) -> Result<(Task<'a>, &'a [u8]), Refusal>
     requires semaphores { m ≤ 16 }
     requires long { 3 * own.count ≤ length bytes.now }
     ensures { reading (λ (task, rest). (task, rest.now)) result ≡ steps_there m i own bytes.now }
 {
-    let mut task = Task::new(own.period, own.offset);
     let mut nest = Nest::new();
     let mut rest = bytes;
     for k in 0..own.count {
         let (step, next) = read_step(m, i, k, &nest, rest)?;
         nest.enter(step);
-        task.push(step);
         rest = next;
     }
     if !nest.is_closed() {
         return Err(Refusal::Nesting(i, own.count));
     }
-    Ok((task, rest))
+    let (steps, _) = bytes[..3 * usize::from(own.count)].as_chunks::<3>();
+    Ok((Task::of_steps(own.period, own.offset, steps), rest))
 }
 
 // Task i: its head, then its steps.
 #[tactic(auto, using(crate::proofs::Parts::parts_in_turn))]
-fn read_task(head: Head, i: u8, bytes: &[u8]) -> Result<(Task, &[u8]), Refusal>
+fn read_task(head: Head, i: u8, bytes: &[u8]) -> Result<(Task<'_>, &[u8]), Refusal>
     requires { head.semaphores ≤ 16 }
     ensures { reading (λ (task, rest). (task, rest.now)) result ≡ read_task head i bytes.now }
 {
@@ -174,31 +178,36 @@ fn read_task(head: Head, i: u8, bytes: &[u8]) -> Result<(Task, &[u8]), Refusal>
     read_steps(head.semaphores, i, own, rest)
 }
 
-// The tasks behind the head, by rank.
+// The tasks behind the head, by rank, where the table is to have them.
 #[tactic(auto, using(crate::proofs::Tasks::tasks_in_turn))]
-fn read_tasks(head: Head, bytes: &[u8]) -> Result<(ArrayVec<Task, 16>, &[u8]), Refusal>
+fn read_tasks<'a>(
+    head: Head,
+    bytes: &'a [u8],
+    tasks: &mut ArrayVec<Task<'a>, 16>,
+) -> Result<&'a [u8], Refusal>
     requires few { head.n ≤ 16 }
     requires semaphores { head.semaphores ≤ 16 }
-    ensures { reading (λ (tasks, rest). (tasks.items, rest.now)) result
+    requires none { tasks.old.items ≡ [] }
+    ensures { reading (λ rest. (tasks.new.items, rest.now)) result
         ≡ read_tasks head 0 head.n bytes.now }
 {
-    let mut tasks = ArrayVec::new();
     let mut rest = bytes;
     for i in 0..head.n {
         let (task, next) = read_task(head, i, rest)?;
         tasks.push(task);
         rest = next;
     }
-    Ok((tasks, rest))
+    Ok(rest)
 }
 
 // The sheet: its table, or why it is turned away. 13 comes last.
 #[tactic(auto, using(crate::proofs::Parts::parts_in_turn))]
-pub fn read_sheet(s: &[u8]) -> Result<Table, Refusal>
+pub fn read_sheet(s: &[u8]) -> Result<Table<'_>, Refusal>
     ensures { reading (λ t. t) result ≡ read_sheet s.now }
 {
     let (head, bytes) = read_head(s)?;
-    let (tasks, rest) = read_tasks(head, bytes)?;
+    let mut tasks = ArrayVec::new();
+    let rest = read_tasks(head, bytes, &mut tasks)?;
     if !rest.is_empty() {
         return Err(Refusal::BytesLeft);
     }

@@ -3,9 +3,11 @@
 // its refusal alone, and leaves what was lent as it was.
 #![tactic(auto, unfolding(crate::proofs::Open::answers))]
 
-ghost use Rattle.std.specs.Prelude.{◌≡◌};
+ghost use Rattle.std.specs.Prelude.{◌≡◌, if◌then◌else◌, length, Ok, Err};
+ghost use Rattle.rules.specs.Words.{◌<?◌};
+ghost use Rattle.rules.specs.declared.Refusal.TheVariants.{Horizon, Buffer};
 ghost use Rattle.rules.specs.Reading.{read_sheet};
-ghost use Rattle.rules.specs.Answers.{read_tick, read_run};
+ghost use Rattle.rules.specs.Answers.{read_tick};
 ghost use Rattle.rules.specs.Promises.{start_contract, check_contract, ceilings_contract, bounds_contract, laxities_contract, tick_contract, tick_in_place_contract, run_contract};
 ghost use Rattle.rules.specs.Coded.{reading, checked, ceilings_in, bounds_in, laxities_in, told_in, ticked_in, ran_in};
 
@@ -33,7 +35,7 @@ pub fn check(s: &[u8]) -> Result<Head, Refusal>
 }
 
 // A sheet that is read, with its ceilings.
-fn sheet_plan(s: &[u8]) -> Result<Plan, Refusal>
+fn sheet_plan(s: &[u8]) -> Result<Plan<'_>, Refusal>
     ensures { reading (λ plan. plan) result ≡ read_sheet s.now }
 {
     let table = sheet::read_sheet(s)?;
@@ -65,7 +67,7 @@ pub fn laxities(s: &[u8]) -> Result<[Laxity; 16], Refusal>
 }
 
 // The sheet of a call with a state: 16, then 17.
-fn tick_plan(s: &[u8], st: State) -> Result<Plan, Refusal>
+fn tick_plan(s: &[u8], st: State) -> Result<Plan<'_>, Refusal>
     ensures { reading (λ plan. plan) result ≡ read_tick s.now st }
 {
     let table = sheet::read_sheet(s)?;
@@ -107,24 +109,24 @@ pub fn tick_in_place(s: &[u8], st: &mut State) -> Result<Runner, Refusal>
     told
 }
 
-// The sheet of a call with a horizon: 14, then 15.
-fn run_plan(s: &[u8], horizon: u16, trace: &[u8]) -> Result<Plan, Refusal>
-    ensures { reading (λ plan. plan) result ≡ read_run s.now horizon trace.now }
+// A horizon and the buffer for its trace: 14, then 15.
+fn room_for_run(horizon: u16, trace: &[u8]) -> Result<(), Refusal>
+    ensures { result ≡ (if 60000 <? horizon then Err Horizon else if length trace.now <? horizon then Err Buffer else Ok tt) }
 {
-    let table = sheet::read_sheet(s)?;
     if 60000 < horizon {
         return Err(Refusal::Horizon);
     }
     if trace.len() < horizon as usize {
         return Err(Refusal::Buffer);
     }
-    Ok(Plan::new(table))
+    Ok(())
 }
 
 // A whole run from the start: one runner byte per tick into the first bytes of the trace; later bytes stay.
 pub fn run(s: &[u8], horizon: u16, trace: &mut [u8]) -> Result<State, Refusal>
     ensures { run_contract s.now horizon trace.old (ran_in result) trace.new }
 {
-    let plan = run_plan(s, horizon, trace)?;
-    Ok(engine::run_of(&plan, horizon, trace))
+    let table = sheet::read_sheet(s)?;
+    room_for_run(horizon, trace)?;
+    Ok(engine::run_of(&Plan::new(table), horizon, trace))
 }

@@ -2,14 +2,13 @@
 // goes, in a nest: specs/Nesting.antt.
 #![tactic(auto)]
 
-ghost use Rattle.std.specs.Prelude.{◌≡◌, ◌↔◌, [], ◌∷◌, true, false, not, length, IsSome, IfSome};
+ghost use Rattle.std.specs.Prelude.{◌≡◌, ◌↔◌, [], ◌∷◌, ◌≤◌, true, false, not, length, reverse, IsSome, IfSome};
 ghost use Rattle.rules.specs.Words.{◌≤?◌};
 ghost use Rattle.rules.specs.Reading.{known, step_of, misplaced_in};
 ghost use Rattle.rules.specs.Laws.{StepLimits};
 ghost use Rattle.table.specs.Steps.{meant};
 ghost use Rattle.steps.specs.Nesting.{open_behind, open_with};
 
-use arrayvec::ArrayVec;
 use std::marker::Model;
 use table::Step;
 
@@ -28,34 +27,77 @@ pub fn known_step(m: u8, kind: u8, value: u16) -> Option<Step>
     }
 }
 
-// The sections that are open: their semaphores, the newest last, and whether a lock stands right before.
-#[derive(Drop)]
+// The sections that are open: their semaphores, the newest last, how many, and whether a lock stands right before. Behind them
+// each place is 0.
+#[derive(Clone, Copy)]
 pub struct Nest {
-    held: ArrayVec<u16, 4>,
+    held: [u16; 4],
+    depth: usize,
     locked: bool,
 }
 
 impl Model for Nest {
-    ghost use Rattle.std.specs.Prelude.{reverse};
-    ghost use Rattle.steps.specs.Nesting.{Open, Distinct};
+    ghost use Rattle.std.specs.Prelude.{◌≡◌, ◌≤◌, ◌-◌, ◌++◌, length, take, drop, reverse, replicate};
+    ghost use Rattle.steps.specs.Nesting.{Open};
+    ghost use Rattle.steps.specs.Places.{same_places, same_depth};
 
     ghost Value = { Open };
 
-    ghost view = { λ n. record { held = reverse n.held.items; locked = n.locked } };
+    ghost view = { λ n. record { held = reverse (take n.depth n.held); locked = n.locked } };
 
-    ghost invariant = { λ n. Distinct (reverse n.held.items) };
+    ghost invariant = { λ n. (length n.held ≡ 4) × (n.depth ≤ 4) × (drop n.depth n.held ≡ replicate (4 - n.depth) 0) };
+
+    ghost inverse = { λ o. record {
+      held = reverse o.held ++ replicate (4 - length o.held) 0;
+      depth = length o.held;
+      locked = o.locked;
+    } };
+
+    ghost inverse_ok = { λ n h i. record {
+      held = same_places n.held n.depth h.0 h.1 h.2 i;
+      depth = same_depth n.held n.depth h.0 h.1 i;
+      locked = n.locked;
+    } };
 }
 
 impl Nest {
     // That of no steps.
-    #[tactic(auto, using(crate::proofs::Nesting::none_open))]
     pub fn new() -> Nest
         ensures { result ≡ open_behind [] }
     {
         Nest {
-            held: ArrayVec::new(),
+            held: [0; 4],
+            depth: 0,
             locked: false,
         }
+    }
+
+    // That of some semaphores, the newest last, and whether a lock stands right before.
+    pub fn of(held: &[u16], locked: bool) -> Nest
+        requires { length held.now ≤ 4 }
+        ensures { result ≡ record { held = reverse held.now; locked = locked } }
+    {
+        let mut places = [0; 4];
+        places[..held.len()].copy_from_slice(held);
+        Nest {
+            held: places,
+            depth: held.len(),
+            locked,
+        }
+    }
+
+    // The semaphores, the newest last.
+    fn semaphores(&self) -> &[u16]
+        ensures { reverse result.now ≡ self.now.held }
+    {
+        &self.held[..self.depth]
+    }
+
+    // Four sections are open.
+    fn is_full(&self) -> bool
+        ensures { result ≡ (4 ≤? length self.now.held) }
+    {
+        4 <= self.depth
     }
 
     // 12: lock of a semaphore already held, fifth level, unlock of any but the newest held, unlock directly after a lock.
@@ -64,8 +106,8 @@ impl Nest {
     {
         match step {
             Step::Run(_) => false,
-            Step::Lock(s) => self.held.is_full() || self.held.contains(&s),
-            Step::Unlock(s) => self.held.last().copied() != Some(s) || self.locked,
+            Step::Lock(s) => self.is_full() || self.semaphores().contains(&s),
+            Step::Unlock(s) => self.semaphores().last().copied() != Some(s) || self.locked,
         }
     }
 
@@ -77,9 +119,13 @@ impl Nest {
         self.locked = step.is_lock();
         match step {
             Step::Run(_) => {}
-            Step::Lock(s) => self.held.push(s),
+            Step::Lock(s) => {
+                self.held[self.depth] = s;
+                self.depth += 1;
+            }
             Step::Unlock(_) => {
-                self.held.pop();
+                self.depth -= 1;
+                self.held[self.depth] = 0;
             }
         }
     }
@@ -88,6 +134,6 @@ impl Nest {
     pub fn is_closed(&self) -> bool
         ensures { result ≡ not (1 ≤? length self.now.held) }
     {
-        self.held.is_empty()
+        self.depth == 0
     }
 }

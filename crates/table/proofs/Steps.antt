@@ -1,13 +1,10 @@
 -- Laws of what stands at a place: the kinds, the ticks, and a walk over steps that pass a test.
-use Rattle.std.proofs.Common.{ℕ, zero, suc, ◌≡◌, refl, sym, ◌∙◌, List, [], ◌∷◌, Bool, true, false, ◌||◌, length, drop, take, map, Option, Some, None, slice_get, option_copied, ltb-true, ltb-false}
-use Rattle.std.proofs.lemmas.Option.{slice_get_past, slice_get_read}
-use Rattle.std.specs.Slice.{IsItemAt}
-use denote.Bor.{Bor}
+use Rattle.std.proofs.Common.{ℕ, zero, suc, ◌≡◌, refl, List, [], ◌∷◌, Bool, true, false, ◌||◌, length, drop, take, map, Some, None, ◌<◌, ◌≤◌, get_or, arith}
 use lib.Seq.{take-nil}
 use Rattle.rules.specs.Words.{any}
 use Rattle.rules.specs.Sheet.{Step as Rules·Step, run, lock, unlock, is_run, is_lock, is_unlock}
 use Rattle.rules.specs.Choice.{full}
-use Rattle.table.specs.Steps.{meant, here, here_is}
+use Rattle.table.specs.Steps.{meant, said, here, here_is}
 use Rattle.table.specs.declared.Step.{Step}
 use Rattle.table.specs.declared.Step.TheVariants.{Run, Lock, Unlock}
 
@@ -44,13 +41,6 @@ here_meant (Run n) steps = refl
 here_meant (Lock s) steps = refl
 here_meant (Unlock s) steps = refl
 
--- and at a position
-pub here_at : (steps : List Step) (p : ℕ) → slice_get steps p ≡ here (drop p (map meant steps))
-here_at [] zero = unfold here in refl
-here_at [] (suc p) = unfold here in refl
-here_at (x ∷ steps) zero = sym (here_meant x (map meant steps))
-here_at (x ∷ steps) (suc p) = here_at steps p
-
 pub full_here : (steps : List Rules·Step) → full steps ≡ (elim (here steps) [ Some x ↦ full (meant x ∷ []) | None ↦ 0 ])
 unfolding here full
 full_here [] = refl
@@ -67,7 +57,16 @@ module _ (test : Rules·Step → Bool) where
   any_first m (lock s ∷ steps) = refl
   any_first m (unlock s ∷ steps) = refl
 
--- what a look at a position finds
-pub copied_here : (steps : List Step) (p : ℕ) (r : Option (Bor Step)) → IsItemAt steps p r → option_copied r ≡ here (drop p (map meant steps))
-copied_here steps p None h = sym (slice_get_past steps p (ltb-false p (length steps) (sym h.0))) ∙ here_at steps p
-copied_here steps p (Some x) h = sym (slice_get_read steps (length steps) p x.now refl (ltb-true p (length steps) (sym h.0)) h.1) ∙ here_at steps p
+-- what stands at a position of steps that stand in bytes
+pub said_here : (steps : List (List ℕ)) (p : ℕ) → p < length steps → (bytes : List ℕ) → bytes ≡ get_or steps p bytes → (x : Step) → meant x ≡ said bytes
+    → here (drop p (map said steps)) ≡ Some x
+said_here [] p l bytes at x e = absurd (omega arith)
+said_here (first ∷ steps) zero l bytes at x e = rw (← at, ← e) (here_meant x (map said steps))
+said_here (first ∷ steps) (suc p) l bytes at x e = said_here steps p (omega arith) bytes at x e
+
+pub said_past : (steps : List (List ℕ)) (p : ℕ) → length steps ≤ p → here (drop p (map said steps)) ≡ None
+unfolding here
+said_past [] zero l = refl
+said_past [] (suc p) l = refl
+said_past (bytes ∷ steps) zero l = absurd (omega arith)
+said_past (bytes ∷ steps) (suc p) l = said_past steps p (omega arith)

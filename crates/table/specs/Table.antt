@@ -1,11 +1,7 @@
--- The tasks of a table, and the sheets that may stand in one.
-use Rattle.std.specs.Prelude.{ℕ, ◌≡◌, List, [], ◌∷◌, ◌++◌}
-use Rattle.rules.specs.Sheet.{Step, Task, Sheet}
+-- The sheets that may stand in a table.
+use Rattle.std.specs.Prelude.{ℕ, ◌≡◌, List}
+use Rattle.rules.specs.Sheet.{Sheet}
 use Rattle.rules.specs.Reading.{read, read_sheet}
-
--- A task with one step more.
-abbrev pub with_step : Task → Step → Task
-with_step task x = record { period = task.period; offset = task.offset; steps = task.steps ++ (x ∷ []) }
 
 -- Some bytes are accepted and read as this sheet.
 abbrev pub Accepted : Sheet → Type 0

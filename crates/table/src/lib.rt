@@ -1,13 +1,13 @@
-// The table of a sheet: its mode, its semaphores and its tasks with their steps, as the reader leaves them. A clause sees a table
-// as document 01's sheet, and a task as its task.
+// The table of a sheet: its mode, its semaphores and its tasks, whose steps stand in the sheet's bytes, three for each. A clause
+// sees a table as document 01's sheet, and a task as its task.
 #![tactic(auto)]
 
 ghost use Rattle.std.specs.Prelude.{◌≡◌, ◌+◌, ◌<◌, ◌≤◌, [], ◌∷◌, ◌++◌, length, drop, map};
 ghost use Rattle.rules.specs.Sheet.{is_run, is_lock, is_unlock, task_at};
 ghost use Rattle.rules.specs.Choice.{full};
 ghost use Rattle.rules.specs.Laws.{All, StepLimits};
-ghost use Rattle.table.specs.Steps.{meant, here, semaphore_in};
-ghost use Rattle.table.specs.Table.{Accepted, with_step};
+ghost use Rattle.table.specs.Steps.{meant, said, here, semaphore_in};
+ghost use Rattle.table.specs.Table.{Accepted};
 
 use arrayvec::ArrayVec;
 use std::marker::Model;
@@ -20,10 +20,19 @@ pub enum Step {
     Unlock(u16),
 }
 
-// What stands in a place that no step has been put in yet.
-impl Default for Step {
-    fn default() -> Step {
-        Step::Run(0)
+// The step that three bytes are: a kind, and a 16-bit number behind it.
+impl From<[u8; 3]> for Step {
+    ghost from_gives = { λ bytes step. meant step ≡ said bytes };
+
+    #[tactic(auto, unfolding(crate::specs::Steps::said, rules::specs::Reading::step_of, rules::specs::Reading::word, rules::specs::Reading::byte))]
+    fn from(bytes: [u8; 3]) -> Step {
+        let [kind, high, low] = bytes;
+        let value = u16::from_be_bytes([high, low]);
+        match kind {
+            1 => Step::Run(value),
+            2 => Step::Lock(value),
+            _ => Step::Unlock(value),
+        }
     }
 }
 
@@ -71,54 +80,64 @@ impl Step {
     }
 }
 
-// A task: its period is at least 1, and its steps keep document 01's limits.
-#[derive(Drop)]
-pub struct Task {
-    period: u16,
-    offset: u16,
-    steps: ArrayVec<Step, 64>,
+// The step at a position of some steps, if one stands there.
+#[tactic(auto, using(crate::proofs::Steps::said_past))]
+pub fn step_at(steps: &[[u8; 3]], p: usize) -> Option<Step>
+    ensures { result ≡ here (drop p (map said steps.now)) }
+{
+    let bytes = steps.get(p)?;
+    Some(Step::from(*bytes))
 }
 
-impl Model for Task {
-    ghost use Rattle.std.specs.Prelude.{◌≤◌, map};
+// A task: its period is at least 1, and its steps, which stand in the sheet's bytes, keep document 01's limits.
+#[derive(Clone, Drop)]
+pub struct Task<'a> {
+    period: u16,
+    offset: u16,
+    steps: &'a [[u8; 3]],
+}
+
+impl<'a> Model for Task<'a> {
+    ghost use Rattle.std.specs.Prelude.{◌≤◌, length, map};
     ghost use Rattle.rules.specs.Sheet.{Task as Rules·Task};
     ghost use Rattle.rules.specs.Laws.{All, StepLimits};
-    ghost use Rattle.table.specs.Steps.{meant};
+    ghost use Rattle.table.specs.Steps.{said};
 
     ghost Value = { Rules·Task };
 
-    ghost view = { λ t. record { period = t.period; offset = t.offset; steps = map meant t.steps.items } };
+    ghost view = { λ t. record { period = t.period; offset = t.offset; steps = map said t.steps.now } };
 
-    ghost invariant = { λ t. (1 ≤ t.period) × All (StepLimits 16) (map meant t.steps.items) };
+    ghost invariant = { λ t. (1 ≤ t.period) × (length t.steps.now ≤ 64) × All (StepLimits 16) (map said t.steps.now) };
 }
 
 // What stands in a place that no task has been put in yet.
-impl Default for Task {
-    fn default() -> Task {
+impl Default for Task<'_> {
+    fn default() -> Self {
         Task::new(1, 0)
     }
 }
 
-impl Task {
+impl<'a> Task<'a> {
     // A task that has no steps yet.
-    pub fn new(period: u16, offset: u16) -> Task
+    pub fn new(period: u16, offset: u16) -> Task<'a>
         requires { 1 ≤ period }
         ensures { result ≡ record { period = period; offset = offset; steps = [] } }
+    {
+        Task::of_steps(period, offset, &[])
+    }
+
+    // A task of these steps.
+    pub fn of_steps(period: u16, offset: u16, steps: &'a [[u8; 3]]) -> Task<'a>
+        requires at_least_one { 1 ≤ period }
+        requires few { length steps.now ≤ 64 }
+        requires limits { All (StepLimits 16) (map said steps.now) }
+        ensures { result ≡ record { period = period; offset = offset; steps = map said steps.now } }
     {
         Task {
             period,
             offset,
-            steps: ArrayVec::new(),
+            steps,
         }
-    }
-
-    // One step more.
-    pub fn push(&mut self, step: Step)
-        requires room { length self.old.steps < 64 }
-        requires limits { StepLimits 16 (meant step) }
-        ensures { self.new ≡ with_step self.old (meant step) }
-    {
-        self.steps.push(step);
     }
 
     pub fn period(&self) -> u16
@@ -134,12 +153,13 @@ impl Task {
         self.offset
     }
 
-    pub fn steps(&self) -> &[Step]
-        ensures value { map meant result.now ≡ self.now.steps }
+    // Its steps, as they stand in the sheet.
+    pub fn steps(&self) -> &'a [[u8; 3]]
+        ensures value { map said result.now ≡ self.now.steps }
         ensures few { length result.now ≤ 64 }
         ensures limits { All (StepLimits 16) self.now.steps }
     {
-        self.steps.as_slice()
+        self.steps
     }
 
     // How many steps it has.
@@ -151,11 +171,10 @@ impl Task {
     }
 
     // The step at a position, if one stands there.
-    #[tactic(auto, using(crate::proofs::Steps::copied_here))]
     pub fn step_at(&self, p: usize) -> Option<Step>
         ensures { result ≡ here (drop p self.now.steps) }
     {
-        self.steps.as_slice().get(p).copied()
+        step_at(self.steps, p)
     }
 
     // The ticks left on coming to a position: a run's full length, else 0.
@@ -168,14 +187,14 @@ impl Task {
 }
 
 // The table of a sheet that document 01 accepts.
-#[derive(Drop)]
-pub struct Table {
+#[derive(Clone, Drop)]
+pub struct Table<'a> {
     mode: u8,
     semaphores: u8,
-    tasks: ArrayVec<Task, 16>,
+    tasks: ArrayVec<Task<'a>, 16>,
 }
 
-impl Model for Table {
+impl<'a> Model for Table<'a> {
     ghost use Rattle.rules.specs.Sheet.{Sheet};
     ghost use Rattle.table.specs.Table.{Accepted};
 
@@ -186,10 +205,10 @@ impl Model for Table {
     ghost invariant = { λ t. Accepted (record { mode = t.mode; semaphores = t.semaphores; tasks = t.tasks.items }) };
 }
 
-impl Table {
-    pub fn new(mode: u8, semaphores: u8, tasks: ArrayVec<Task, 16>) -> Table
+impl<'a> Table<'a> {
+    pub fn new(mode: u8, semaphores: u8, tasks: ArrayVec<Task<'a>, 16>) -> Table<'a>
         requires { Accepted (record { mode = mode; semaphores = semaphores; tasks = tasks.items }) }
-        ensures { result ≡ record { mode = mode; semaphores = semaphores; tasks = tasks.items } }
+        ensures { result ≡ record { mode = mode; semaphores = semaphores; tasks = tasks.entry.items } }
     {
         Table {
             mode,
@@ -220,7 +239,7 @@ impl Table {
     }
 
     // The tasks by rank.
-    pub fn tasks(&self) -> &[Task]
+    pub fn tasks(&self) -> &[Task<'a>]
         ensures value { result.now ≡ self.now.tasks }
         ensures few { length result.now ≤ 16 }
         ensures accepted { Accepted self.now }
@@ -229,7 +248,7 @@ impl Table {
     }
 
     // The task of a rank.
-    pub fn task(&self, i: usize) -> &Task
+    pub fn task(&self, i: usize) -> &Task<'a>
         requires { i < length self.now.tasks }
         ensures value { result.now ≡ task_at self.now i }
         ensures accepted { Accepted self.now }

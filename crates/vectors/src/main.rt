@@ -53,9 +53,8 @@ fn digit(b: u8) -> Option<u8>
     }
 }
 
-// The bytes that pairs of digits stand for, as far as there is room; a longest sheet has less.
-fn bytes_of(hex: &[u8]) -> ArrayVec<u8, 4096> {
-    let mut bytes = ArrayVec::new();
+// The bytes that pairs of digits stand for, put behind those that stand there, as far as there is room; a longest sheet has less.
+fn bytes_of(hex: &[u8], bytes: &mut ArrayVec<u8, 4096>) {
     let mut high = None;
     for digit in hex.iter().filter_map(|b| digit(*b)) {
         match high.take() {
@@ -65,7 +64,6 @@ fn bytes_of(hex: &[u8]) -> ArrayVec<u8, 4096> {
             }
         }
     }
-    bytes
 }
 
 fn print_check(rt: &impl Print, name: &[u8], sheet: &[u8]) {
@@ -105,12 +103,15 @@ fn answer(rt: &impl Print, part: &[u8]) {
     if let [b'\n' | b'#', ..] = part {
         return;
     }
-    if part.contains(&b'=') {
-        let (name, hex) = split(part, b'=');
-        print_check(rt, without_last(name), &bytes_of(hex));
+    let checks = part.contains(&b'=');
+    let (name, hex) = split(part, if checks { b'=' } else { b'?' });
+    let name = without_last(name);
+    let mut sheet = ArrayVec::new();
+    bytes_of(hex, &mut sheet);
+    if checks {
+        print_check(rt, name, &sheet);
     } else {
-        let (name, hex) = split(part, b'?');
-        print_analysis(rt, without_last(name), &bytes_of(hex));
+        print_analysis(rt, name, &sheet);
     }
 }
 

@@ -11,6 +11,10 @@ number_room = 10
 abbrev pub field_room : ℕ
 field_room = word_room + number_room
 
+-- A laxity of 32 bits may have a sign.
+abbrev pub laxity_room : ℕ
+laxity_room = 1 + number_room
+
 -- What gives a bound has two fields at most.
 abbrev pub given_by_room : ℕ
 given_by_room = 2 * field_room

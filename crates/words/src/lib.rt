@@ -3,9 +3,9 @@
 // specs/Room.antt.
 #![tactic(auto)]
 
-ghost use Rattle.std.specs.Prelude.{◌+◌, ◌≤◌, ◌≡◌, ◌++◌, length};
+ghost use Rattle.std.specs.Prelude.{◌+◌, ◌^◌, ◌<◌, ◌≤◌, ◌≡◌, ◌++◌, length, unsigned_abs};
 ghost use Rattle.arrayvec.specs.ArrayVec.{array_vec_len};
-ghost use Rattle.words.specs.Room.{word_room, number_room, field_room, given_by_room, tick_room};
+ghost use Rattle.words.specs.Room.{word_room, number_room, field_room, laxity_room, given_by_room, tick_room};
 ghost use Rattle.words.specs.Words.{decimal, numbered, signed_decimal, given_by, tick_word};
 
 use arrayvec::ArrayVec;
@@ -18,15 +18,24 @@ pub fn put_text<const CAP: usize>(out: &mut ArrayVec<u8, CAP>, text: &[u8])
     out.try_extend_from_slice(text).unwrap();
 }
 
-// The digits of a number.
-#[tactic(auto, using(crate::proofs::Decimal::decimal_is_written))]
+// The digits of a number. One or two are put at once: a trace has as many words as ticks.
+#[tactic(auto, using(crate::proofs::Decimal::decimal_is_written, crate::proofs::Decimal::decimal_one, crate::proofs::Decimal::decimal_two))]
 fn put_digits<const CAP: usize>(out: &mut ArrayVec<u8, CAP>, n: u64)
     requires { array_vec_len out.old + length (decimal n) ≤ CAP }
     ensures put { out.new.items ≡ out.old.items ++ decimal n }
     ensures exact { array_vec_len out.new ≡ array_vec_len out.old + length (decimal n) }
 {
-    let mut digits = itoa::Buffer::new();
-    put_text(out, digits.format(n).as_bytes());
+    match n {
+        0..=9 => out.push(b'0' + n as u8),
+        10..=99 => {
+            out.push(b'0' + (n / 10) as u8);
+            out.push(b'0' + (n % 10) as u8);
+        }
+        _ => {
+            let mut digits = itoa::Buffer::new();
+            put_text(out, digits.format(n).as_bytes());
+        }
+    }
 }
 
 // A number of 32 bits has at most ten digits.
@@ -53,11 +62,12 @@ pub fn put_field<const CAP: usize>(out: &mut ArrayVec<u8, CAP>, name: &[u8], n: 
 }
 
 // The minus is put by hand, and not by itoa's text of a signed number: the edit minus_as_space is of this line.
-#[tactic(auto, unfolding(crate::specs::Words::signed_decimal))]
+#[tactic(auto, using(crate::proofs::Decimal::laxity_short), unfolding(crate::specs::Words::signed_decimal))]
 pub fn put_laxity<const CAP: usize>(out: &mut ArrayVec<u8, CAP>, x: Laxity)
     requires { array_vec_len out.old + length (signed_decimal x) ≤ CAP }
     ensures put { out.new.items ≡ out.old.items ++ signed_decimal x }
     ensures exact { array_vec_len out.new ≡ array_vec_len out.old + length (signed_decimal x) }
+    ensures upper_bound { unsigned_abs x.ticks < 2 ^ 32 → array_vec_len out.new ≤ array_vec_len out.old + laxity_room }
 {
     if x.ticks < 0 {
         out.push(b'-');

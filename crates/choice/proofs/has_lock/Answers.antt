@@ -5,11 +5,11 @@ use Rattle.std.proofs.lemmas.Iterator.Search.{any_from_yields_List}
 use borrow.Author.Tests.{tests}
 use Rattle.rules.specs.Words.{any}
 use Rattle.rules.specs.Sheet.{is_lock}
-use Rattle.table.specs.Steps.{meant}
-use Rattle.choice.proofs.Steps.{any_meant}
+use Rattle.table.specs.Steps.{said}
+use Rattle.choice.proofs.Steps.{any_said}
 use Rattle.choice.proofs.has_lock.Goals as goal
 
 pub returns : goal.returns
 returns c =
-    any_from_yields_List (λ x. is_lock (meant x)) _ _ _ c.any.ensures.ran (YieldsList-from_slice c.steps.result.now cc) (λ x b q k. search (rules, tests))
-    ∙ any_meant is_lock c.steps.result.now ∙ ap (any is_lock) c.steps.ensures.value
+    any_from_yields_List (λ x. is_lock (said x)) _ _ _ c.any.ensures.ran (YieldsList-from_slice c.steps.result.now cc) (λ x b q k. search (rules, tests))
+    ∙ any_said is_lock c.steps.result.now ∙ ap (any is_lock) c.steps.ensures.value

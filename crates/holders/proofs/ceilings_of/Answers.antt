@@ -1,5 +1,4 @@
 -- Rank by rank, the smallest so far that has a lock of each semaphore; after the last these are the ceilings.
-use Rattle.holders.proofs.Steps.{limits_at}
 use Rattle.holders.proofs.Holders.{ranks_none, ceilings_more, ceilings_all, locks_more, locks_same, locks_all}
 use Rattle.holders.proofs.ceilings_of.Goals as goal
 use Rattle.holders.proofs.ceilings_of.Goals.{then-is_lock, else-is_lock}
@@ -11,10 +10,6 @@ loop-i-init c =
 pub loop-x-init : goal.loop-x-init
 loop-x-init c =
     search ceilings_more
-
-pub pass_step-requires : goal.pass_step-requires
-pass_step-requires c =
-    search limits_at
 
 pub loop-x-preserved : goal.loop-x-preserved
 loop-x-preserved c =

@@ -1,10 +1,6 @@
 -- The steps passed, then those ahead, give the entries of the whole stretch.
-use Rattle.holders.proofs.Steps.{limits_cut, pass_more, pass_all}
+use Rattle.holders.proofs.Steps.{pass_more, pass_all}
 use Rattle.holders.proofs.pass.Goals as goal
-
-pub pass_step-requires : goal.pass_step-requires
-pass_step-requires c =
-    search limits_cut
 
 pub loop-x-preserved : goal.loop-x-preserved
 loop-x-preserved c =

@@ -1,5 +1,5 @@
--- Below n the job decides, and from n on the record must be zero.
-use Rattle.possible.proofs.Fits.{in_rank, past_last}
+-- Below n the job decides.
+use Rattle.possible.proofs.Fits.{in_rank}
 use Rattle.possible.proofs.rank_fits.Goals as goal
 
 pub returns-in-Some : goal.returns-in-Some
@@ -8,8 +8,3 @@ returns-in-Some c =
     let inside = found.3.0 in
     let at = found.1 in
     search in_rank
-
-pub returns-in-None : goal.returns-in-None
-returns-in-None c =
-    let past = c.in-None.ensures.lookup.3 in
-    search past_last

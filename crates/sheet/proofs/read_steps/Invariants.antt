@@ -4,4 +4,4 @@ use Rattle.sheet.proofs.read_steps.Given as goal
 
 abbrev pub invariant-loop-k : goal.invariant-loop-k
 invariant-loop-k l =
-    Going l.m l.i l.fn.own l.bytes l.nest l.task l.rest l.k
+    Going l.m l.i l.fn.own l.bytes l.nest l.rest l.k

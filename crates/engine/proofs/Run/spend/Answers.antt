@@ -1,5 +1,5 @@
 -- The holders are passed on with the steps of the job that runs.
-use Rattle.std.proofs.Common.{ap, refl, arith}
+use Rattle.std.proofs.Common.{ap, refl, sym, arith}
 use Rattle.rules.specs.Fields.{with_tasks}
 use Rattle.rules.proofs.Limits.{accepted_within_limits}
 use Rattle.effect.proofs.Laws.{ran_nobody}
@@ -15,7 +15,7 @@ bounds-self-i-in-Rank c =
     let a = c.task-task.ensures.accepted in omega (arith, c.requires.runner_bound c.in-Rank.rank c.in-Rank.is, (accepted_within_limits a.0 c.args.table.now a.1).tasks_to)
 
 pub returns-in-Rank-clause-holders_value : goal.returns-in-Rank-clause-holders_value
-returns-in-Rank-clause-holders_value c = passed _ _ _ _ c.in-Rank.is c.from-i.ensures c.task-task.ensures.value c.holders_after-held.ensures
+returns-in-Rank-clause-holders_value c = passed _ _ _ _ c.in-Rank.is c.from-i.ensures c.task-task.ensures.value (c.holders_after-held.ensures _ (sym c.steps.ensures.value))
 
 pub returns-in_default : goal.returns-in_default
 returns-in_default c =

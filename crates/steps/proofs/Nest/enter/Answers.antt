@@ -1,25 +1,30 @@
--- A step that is well placed gives the nest behind it: a lock has room and is new, and an unlock is of the newest.
-use Rattle.std.proofs.Common.{◌<◌, length, arith}
-use Rattle.steps.proofs.Nesting.{behind_run, room, still_distinct, behind_lock, behind_unlock}
+-- A step that is well placed gives the nest behind it: a lock has room, and an unlock is of the newest.
+use Rattle.std.proofs.Common.{◌<◌, length-set, ◌∙◌, arith}
+use Rattle.steps.proofs.Nesting.{behind_run, a_run, a_lock, an_unlock, room, behind_lock, zeros_more, one_open, behind_unlock}
 use Rattle.steps.proofs.Nest.enter.Goals as goal
 
-pub push-requires : goal.push-requires
-push-requires c =
-    let few : length c.self.inside.held.items < 4 = search room in
-    (omega arith, omega arith)
+pub bounds-self-inside-self-inside : goal.bounds-self-inside-self-inside
+bounds-self-inside-self-inside c =
+    search room
 
 pub invariant_of-self-in-Lock : goal.invariant_of-self-in-Lock
 invariant_of-self-in-Lock c =
-    search still_distinct
+    let few : c.self.inside.depth < 4 = search room in
+    let i = c.self.invariant in
+    (length-set _ _ _ ∙ i.0, omega arith, zeros_more _ _ _ i.2)
 
-pub returns-in-Lock : goal.returns-in-Lock
-returns-in-Lock c =
-    search behind_lock
+pub overflow_sub-self : goal.overflow_sub-self
+overflow_sub-self c =
+    search one_open
 
 pub returns-in-Run : goal.returns-in-Run
 returns-in-Run c =
-    search behind_run
+    search (behind_run, a_run)
+
+pub returns-in-Lock : goal.returns-in-Lock
+returns-in-Lock c =
+    search (behind_lock, a_lock)
 
 pub returns-in-Unlock : goal.returns-in-Unlock
 returns-in-Unlock c =
-    search behind_unlock
+    search (behind_unlock, an_unlock)
