@@ -2,6 +2,8 @@
 
 ghost use Rattle.std.specs.Prelude.{◌≡◌, ◌^◌, ◌<◌, ◌≤◌, map};
 ghost use Rattle.rules.specs.Bounds.{cost};
+ghost use Rattle.table.specs.Table.{sheet_of};
+ghost use Rattle.table.specs.Tasks.{task_of};
 
 use arrayvec::ArrayVec;
 use bounds::cost_of;
@@ -24,7 +26,7 @@ impl Default for Load {
 }
 
 impl From<&Task<'_>> for Load {
-    ghost from_gives = { λ task load. (load.cost ≡ cost task.now) × (load.period ≡ task.now.period) };
+    ghost from_gives = { λ task load. (load.cost ≡ cost (task_of task.now)) × (load.period ≡ (task_of task.now).period) };
 
     fn from(task: &Task<'_>) -> Load {
         Load {
@@ -36,8 +38,8 @@ impl From<&Task<'_>> for Load {
 
 // The load of each task, by rank.
 pub fn loads_of(table: &Table) -> ArrayVec<Load, 16>
-    ensures costs { map (λ x. x.cost) result.items ≡ map cost table.now.tasks }
-    ensures periods { map (λ x. x.period) result.items ≡ map (λ task. task.period) table.now.tasks }
+    ensures costs { map (λ x. x.cost) result.items ≡ map cost (sheet_of table.now).tasks }
+    ensures periods { map (λ x. x.period) result.items ≡ map (λ task. task.period) (sheet_of table.now).tasks }
 {
     let mut loads = ArrayVec::new();
     for task in table.tasks() {

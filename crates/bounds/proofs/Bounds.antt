@@ -1,7 +1,7 @@
 -- Laws of the longest of many sections, of the first that gives a bound, and of a bound.
-use Rattle.std.proofs.Common.{ℕ, zero, suc, ◌+◌, ◌-◌, ◌≤◌, ◌<◌, max, ◌≡◌, refl, sym, ap, ◌∙◌, List, [], ◌∷◌, Bool, true, false, ◌&&◌, length, get_or, drop, take, arith, if◌then◌else◌, Option, Some, None, unwrap_or, add-one}
+use Rattle.std.proofs.Common.{ℕ, zero, suc, ◌+◌, ◌-◌, ◌≤◌, ◌<◌, max, ◌≡◌, refl, sym, ap, ◌∙◌, List, [], ◌∷◌, Bool, true, false, ◌&&◌, length, get_or, drop, take, map, arith, if◌then◌else◌, Option, Some, None, unwrap_or, add-one}
 use mathlib.Core.Logic.{⊎_elim}
-use Rattle.std.proofs.lemmas.List.{get_or_past, get_or_default, get_or-drop, take_all, length-drop}
+use Rattle.std.proofs.lemmas.List.{get_or_past, get_or-drop, take_all, length-drop}
 use borrow.Author.Tests.{lt-ltb, le-ltb, ne_eqb, eq-eqb}
 use Rattle.std.specs.Option.{MatchOption}
 use Rattle.std.specs.Ordering.{ord_max}
@@ -11,7 +11,9 @@ use Rattle.rules.specs.Words.{◌=?◌, some, smallest, largest}
 use Rattle.rules.specs.Sheet.{Step, run, lock, unlock, Sheet, Task, task_at, no_task}
 use Rattle.rules.specs.Bounds.{runs, cost, section_length, begins, steps_from, is_counted, counted_length, bound, gives, bound_by, section}
 use Rattle.rules.proofs.Laws.{below, if_cases, and_at, some_of, none_of, smallest_found, smallest_is, smallest_none, smallest_same, largest_same}
-use Rattle.table.proofs.Laws.{drop_past}
+use Rattle.table.specs.Tasks.{task_of}
+use Rattle.table.specs.declared.task.Task.{Task as Table·Task}
+use Rattle.table.proofs.Laws.{drop_past, many_tasks, task_read}
 use Rattle.bounds.proofs.Steps.{inside_le, runs_drop}
 use Rattle.bounds.specs.Sections.{counts, counted_section, longest_section, first_giving}
 
@@ -113,21 +115,20 @@ unfoldable pub longest_of : Sheet → (i j : ℕ) → ℕ
 longest_of sheet i j = largest 64 (counted_length sheet i j)
 
 -- the tasks from a rank on, as a slice has them
-module _ (sheet : Sheet) (tasks : List Task) (all : tasks ≡ sheet.tasks) (n : ℕ) where
-  abbrev rest : List Task
+module _ (sheet : Sheet) (tasks : List Table·Task) (all : map task_of tasks ≡ sheet.tasks) (n : ℕ) where
+  abbrev rest : List Table·Task
   rest = take (length tasks - n) (drop n tasks)
 
   rest_is : rest ≡ drop n tasks
   rest_is = take_all (length tasks - n) (drop n tasks) (omega (arith, length-drop n tasks))
 
   pub rest_length : n ≤ length tasks → n + length rest ≡ length sheet.tasks
-  rest_length l = omega (arith, ap length rest_is, length-drop n tasks, ap length all)
+  rest_length l = omega (arith, ap length rest_is, length-drop n tasks, many_tasks sheet tasks all)
 
-  pub rest_task : (t : ℕ) (task : Task) → t < length rest → task ≡ get_or rest t task → task ≡ task_at sheet (n + t)
-  unfolding task_at
+  pub rest_task : (t : ℕ) (task : Table·Task) → t < length rest → task ≡ get_or rest t task → task_of task ≡ task_at sheet (n + t)
   rest_task t task l e =
-      e ∙ ap (λ (xs : List Task). get_or xs t task) rest_is ∙ get_or-drop n tasks t task ∙ ap (λ (xs : List Task). get_or xs (n + t) task) all
-      ∙ get_or_default sheet.tasks (n + t) task no_task (omega (arith, ap length rest_is, length-drop n tasks, ap length all))
+      task_read sheet tasks all (n + t) (omega (arith, ap length rest_is, length-drop n tasks)) task
+      (e ∙ ap (λ (xs : List Table·Task). get_or xs t task) rest_is ∙ get_or-drop n tasks t task)
 
 module _ (sheet : Sheet) (i : ℕ) where
   -- a task up to i has none

@@ -5,6 +5,7 @@ ghost use Rattle.std.specs.Prelude.{◌≡◌, ◌+◌, ◌^◌, ◌<◌, drop, 
 ghost use Rattle.rules.specs.Bounds.{runs, inside, bound, bound_by, cost};
 ghost use Rattle.rules.specs.Answers.{by_rank, bound_of, no_bound};
 ghost use Rattle.table.specs.Steps.{said};
+ghost use Rattle.table.specs.Tasks.{task_of};
 ghost use Rattle.bounds.specs.Sections.{counted_section, longest_section, first_giving};
 
 use holders::Plan;
@@ -23,7 +24,7 @@ fn runs(steps: &[[u8; 3]]) -> u16
 // C is the sum of a task's runs.
 #[tactic(auto, using(crate::proofs::Steps::runs_fit), unfolding(rules::specs::Bounds::cost))]
 pub fn cost_of(task: &Task) -> u16
-    ensures { result ≡ cost task.now }
+    ensures { result ≡ cost (task_of task.now) }
 {
     runs(task.steps())
 }
@@ -41,7 +42,7 @@ fn inside(u: u16, steps: &[[u8; 3]]) -> &[[u8; 3]]
 
 // The length of the section that begins at a position, if its semaphore has a ceiling of at most i.
 fn counted_section(plan: &Plan, task: &Task, i: usize, k: usize) -> Option<u16>
-    ensures { result ≡ counted_section plan.now i (drop k task.now.steps) }
+    ensures { result ≡ counted_section plan.now i (drop k (task_of task.now).steps) }
 {
     let steps = task.steps();
     let bytes = steps.get(k)?;
@@ -57,7 +58,7 @@ fn counted_section(plan: &Plan, task: &Task, i: usize, k: usize) -> Option<u16>
 
 // The longest of a task's sections that the bound of task i counts; 0 if none.
 fn longest_section(plan: &Plan, task: &Task, i: usize) -> u16
-    ensures { result ≡ longest_section plan.now i task.now.steps }
+    ensures { result ≡ longest_section plan.now i (task_of task.now).steps }
 {
     let mut longest = 0;
     for k in 0..task.count() {
@@ -80,7 +81,7 @@ fn bound_ticks(plan: &Plan, i: usize) -> u16
 
 // The first lock step of a task whose section gives a bound of so many ticks to task i, if one does.
 fn giving_step(plan: &Plan, task: &Task, i: usize, ticks: u16) -> Option<u8>
-    ensures { result ≡ first_giving plan.now i ticks task.now.steps }
+    ensures { result ≡ first_giving plan.now i ticks (task_of task.now).steps }
 {
     let count = task.count() as u8;
     (0..count).find(|k| counted_section(plan, task, i, usize::from(*k)) == Some(ticks))

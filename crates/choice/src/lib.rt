@@ -6,6 +6,7 @@ ghost use Rattle.rules.specs.Words.{any, row};
 ghost use Rattle.rules.specs.Sheet.{is_run, is_lock};
 ghost use Rattle.rules.specs.Record.{record_at};
 ghost use Rattle.rules.specs.Choice.{ceiling, goes, top_job, walk, runner};
+ghost use Rattle.table.specs.Tasks.{task_of};
 ghost use Rattle.holders.specs.Holders.{holders};
 ghost use Rattle.choice.specs.Choosable.{Choosable};
 ghost use Rattle.choice.specs.Way.{nearer, nearest, bars};
@@ -62,14 +63,14 @@ fn way_of(plan: &Plan, hs: [u8; 16], i: u8) -> Option<Way>
 
 // Does a run lie before a position?
 fn runs_before(task: &Task, p: usize) -> bool
-    ensures { result ≡ any is_run (take p task.now.steps) }
+    ensures { result ≡ any is_run (take p (task_of task.now).steps) }
 {
     task.steps().iter().take(p).any(|x| Step::from(*x).is_run())
 }
 
 // Has a task's program a lock?
 fn has_lock(task: &Task) -> bool
-    ensures { result ≡ any is_lock task.now.steps }
+    ensures { result ≡ any is_lock (task_of task.now).steps }
 {
     task.steps().iter().any(|x| Step::from(*x).is_lock())
 }
@@ -78,7 +79,7 @@ fn has_lock(task: &Task) -> bool
 // with a lock in its program.
 #[tactic(auto, using(crate::proofs::Steps::goes_behind))]
 fn goes_barred(mode: u8, task: &Task, j: Job) -> bool
-    ensures { result ≡ goes mode task.now j false }
+    ensures { result ≡ goes mode (task_of task.now) j false }
 {
     let position = usize::from(j.position);
     let Some(x) = task.step_at(position) else {

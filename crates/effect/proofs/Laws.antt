@@ -32,8 +32,10 @@ use Rattle.rules.specs.declared.Runner.{Runner}
 use Rattle.rules.specs.declared.Runner.TheVariants.{Rank, Stuck, Idle}
 use Rattle.rules.proofs.Laws.{sure, below, length_row, row_at}
 use Rattle.rules.proofs.Tick.{advanced_cases, spent_at}
-use Rattle.table.proofs.Laws.{drop_past, task_read}
+use Rattle.table.proofs.Laws.{drop_past, many_tasks, task_read}
 use Rattle.table.specs.Steps.{said}
+use Rattle.table.specs.Tasks.{task_of}
+use Rattle.table.specs.declared.task.Task.{Task as Table·Task}
 use Rattle.record.specs.Room.{CountsBelow, AllBelow}
 use Rattle.effect.specs.Effect.{Rests, Quiet, blocked_once, each_blocked}
 
@@ -60,16 +62,17 @@ passing test from xs ahead steps e behind n en =
     ∙ ap (leading test) (sym (drop-map said from xs) ∙ ap (drop from) e))
 
 -- what a look at a rank finds in the table's tasks
-pub task_found : (sheet : Sheet) (tasks : List Task) (i : ℕ) (r : Option (Bor Task)) → tasks ≡ sheet.tasks → IsItemAt tasks i r
-    → (x : Bor Task) → r ≡ Some x → x.now ≡ task_at sheet i
+pub task_found : (sheet : Sheet) (tasks : List Table·Task) (i : ℕ) (r : Option (Bor Table·Task)) → map task_of tasks ≡ sheet.tasks → IsItemAt tasks i r
+    → (x : Bor Table·Task) → r ≡ Some x → task_of x.now ≡ task_at sheet i
 task_found sheet tasks i r e found x h =
     let item = rw h at found in task_read sheet tasks e i (ltb-true i (length tasks) (sym item.0)) x.now item.1
 
-pub task_past : (sheet : Sheet) (tasks : List Task) (i : ℕ) (r : Option (Bor Task)) → tasks ≡ sheet.tasks → IsItemAt tasks i r → r ≡ None → no_task ≡ task_at sheet i
+pub task_past : (sheet : Sheet) (tasks : List Table·Task) (i : ℕ) (r : Option (Bor Table·Task)) → map task_of tasks ≡ sheet.tasks → IsItemAt tasks i r → r ≡ None
+    → no_task ≡ task_at sheet i
 unfolding task_at
 task_past sheet tasks i r e found h =
     let item = rw h at found in
-    sym (get_or_past tasks i no_task (ltb-false i (length tasks) (sym item.0))) ∙ ap (λ (ts : List Task). get_or ts i no_task) e
+    sym (get_or_past sheet.tasks i no_task (rw (many_tasks sheet tasks e) at (ltb-false i (length tasks) (sym item.0))))
 
 -- a task has no release before its next one
 not_due : (x d q p since : ℕ) → x ≡ q * p + since → since + d < p → 1 ≤ d → eqb ((x + d) % p) 0 ≡ false

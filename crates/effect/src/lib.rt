@@ -8,6 +8,8 @@ ghost use Rattle.rules.specs.Sheet.{Step as Rules·Step, no_task};
 ghost use Rattle.rules.specs.Fields.{with_tasks, same_job};
 ghost use Rattle.rules.specs.Tick.{releases_at, released, after_releases, left_of_run, next_run, advanced, spent, after_runner, ran_last, closed};
 ghost use Rattle.rules.specs.declared.Runner.TheVariants.{Rank};
+ghost use Rattle.table.specs.Table.{sheet_of};
+ghost use Rattle.table.specs.Tasks.{task_of};
 ghost use Rattle.record.specs.Room.{CountsBelow, AllBelow};
 ghost use Rattle.effect.specs.Effect.{Rests, Quiet, each_blocked, Tells};
 
@@ -20,7 +22,7 @@ use table::{Step, Table, Task};
 // Rule 1: whether a task has a release at t.
 #[tactic(auto, unfolding(rules::specs::Tick::releases_at))]
 fn releases_at(t: u16, task: &Task) -> bool
-    ensures { result ≡ releases_at t task.now }
+    ensures { result ≡ releases_at t (task_of task.now) }
 {
     task.offset() <= t && (t - task.offset()) % task.period() == 0
 }
@@ -29,8 +31,8 @@ fn releases_at(t: u16, task: &Task) -> bool
 #[tactic(auto, unfolding(rules::specs::Tick::released))]
 fn released(t: u16, task: &Task, r: TaskRecord) -> TaskRecord
     requires counts_below { CountsBelow 65535 r.counts }
-    requires due { releases_at t task.now ≡ true }
-    ensures { result ≡ released t task.now r }
+    requires due { releases_at t (task_of task.now) ≡ true }
+    ensures { result ≡ released t (task_of task.now) r }
 {
     let counts = record::up(Count::Releases, r.counts);
     if r.job.pending {
@@ -44,7 +46,7 @@ fn released(t: u16, task: &Task, r: TaskRecord) -> TaskRecord
 // The state after the releases of its tick. Records at n and above are not looked at.
 pub fn after_releases(table: &Table, mut st: State) -> State
     requires { AllBelow 65535 st.tasks }
-    ensures { result ≡ with_tasks st (after_releases table.now st) }
+    ensures { result ≡ with_tasks st (after_releases (sheet_of table.now) st) }
 {
     for (i, task) in table.tasks().iter().enumerate() {
         if releases_at(st.t, task) {
@@ -57,7 +59,7 @@ pub fn after_releases(table: &Table, mut st: State) -> State
 // The task's first release after t.
 #[tactic(auto, using(crate::proofs::Laws::rests_early, crate::proofs::Laws::rests_then))]
 fn next_release(t: u16, task: &Task) -> u32
-    ensures { Rests (t + 1) result task.now }
+    ensures { Rests (t + 1) result (task_of task.now) }
 {
     let offset = task.offset();
     if t < offset {
@@ -69,7 +71,7 @@ fn next_release(t: u16, task: &Task) -> u32
 
 // A tick before which no task has a release after t: the first of their next ones, 60,000 at most, where every run has ended.
 pub fn quiet_until(table: &Table, t: u16) -> u32
-    ensures { Quiet (t + 1) result table.now }
+    ensures { Quiet (t + 1) result (sheet_of table.now) }
 {
     let mut due = 60000;
     for task in table.tasks() {
@@ -81,7 +83,7 @@ pub fn quiet_until(table: &Table, t: u16) -> u32
 // Past the steps from a position on that pass a test.
 fn past<F: Fn(Step) -> bool>(task: &Task, from: usize, passes: F) -> usize
     requires { F.IsAlwaysCallable passes }
-    ensures value { (test : Rules·Step → Bool) → Tells (F.post passes) test → result ≡ from + leading test (drop from task.now.steps) }
+    ensures value { (test : Rules·Step → Bool) → Tells (F.post passes) test → result ≡ from + leading test (drop from (task_of task.now).steps) }
     ensures within { result ≤ max from 64 }
 {
     let steps = task.steps();
@@ -92,8 +94,8 @@ fn past<F: Fn(Step) -> bool>(task: &Task, from: usize, passes: F) -> usize
 // Rule 5: the ticks left of the next run, which stands at p.
 #[tactic(auto, unfolding(rules::specs::Tick::left_of_run))]
 fn left_of_run(task: &Task, j: Job, p: usize) -> u16
-    requires { p ≡ next_run task.now j }
-    ensures { result ≡ left_of_run task.now j }
+    requires { p ≡ next_run (task_of task.now) j }
+    ensures { result ≡ left_of_run (task_of task.now) j }
 {
     if p == usize::from(j.position) {
         return j.left;
@@ -114,7 +116,7 @@ fn response(t: u16, release: u16) -> u16
 fn advanced(t: u16, task: &Task, r: TaskRecord) -> TaskRecord
     requires counts_below { CountsBelow 65535 r.counts }
     requires t_bound { t < 65535 }
-    ensures { result ≡ advanced t task.now r }
+    ensures { result ≡ advanced t (task_of task.now) r }
 {
     let j = r.job;
     let p = past(task, usize::from(j.position), Step::is_lock);
@@ -139,7 +141,7 @@ fn advanced(t: u16, task: &Task, r: TaskRecord) -> TaskRecord
 fn ran(t: u16, task: &Task, r: TaskRecord) -> TaskRecord
     requires counts_below { CountsBelow 65535 r.counts }
     requires t_bound { t < 65535 }
-    ensures { (i : ℕ) → result ≡ spent (Rank i) t i task.now r }
+    ensures { (i : ℕ) → result ≡ spent (Rank i) t i (task_of task.now) r }
 {
     let a = advanced(t, task, r);
     let counts = record::up(Count::TicksRun, a.counts);
@@ -174,7 +176,7 @@ fn blocked_above(x: usize, records: &mut [TaskRecord; 16])
 pub fn after_runner(table: &Table, x: Runner, mut st: State) -> State
     requires all_below { AllBelow 65535 st.tasks }
     requires t_bound { st.t < 65535 }
-    ensures { result ≡ with_tasks st (after_runner x table.now st.t st.tasks) }
+    ensures { result ≡ with_tasks st (after_runner x (sheet_of table.now) st.t st.tasks) }
 {
     let Runner::Rank(rank) = x else {
         return st;

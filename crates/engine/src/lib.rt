@@ -7,8 +7,8 @@ ghost use Rattle.rules.specs.Fields.{start, with_tasks};
 ghost use Rattle.rules.specs.Record.{possible};
 ghost use Rattle.rules.specs.Tick.{after_releases, after_runner, runner_of, tick};
 ghost use Rattle.rules.specs.Run.{after, written};
-ghost use Rattle.table.specs.Table.{Accepted};
 ghost use Rattle.rules.specs.declared.Runner.TheVariants.{Rank};
+ghost use Rattle.table.specs.Table.{Accepted, sheet_of};
 ghost use Rattle.record.specs.Room.{AllBelow};
 ghost use Rattle.effect.specs.Effect.{Quiet};
 ghost use Rattle.engine.specs.AtHand.{AtHand, Ready, after_runner_tick};
@@ -74,10 +74,10 @@ impl Run {
     fn release(&mut self, table: &Table)
         requires sized { length self.old.state.tasks ≡ 16 }
         requires all_below { AllBelow 65535 self.old.state.tasks }
-        requires quiet { Quiet self.old.state.t self.old.due table.now }
-        ensures state_value { self.new.state ≡ with_tasks self.old.state (after_releases table.now self.old.state) }
+        requires quiet { Quiet self.old.state.t self.old.due (sheet_of table.now) }
+        ensures state_value { self.new.state ≡ with_tasks self.old.state (after_releases (sheet_of table.now) self.old.state) }
         ensures holders_stay { self.new.holders ≡ self.old.holders }
-        ensures quiet { Quiet (self.old.state.t + 1) self.new.due table.now }
+        ensures quiet { Quiet (self.old.state.t + 1) self.new.due (sheet_of table.now) }
     {
         let t = self.state.t;
         if self.due <= u32::from(t) {
@@ -88,12 +88,12 @@ impl Run {
 
     // The runner's tick.
     fn spend(&mut self, table: &Table, x: Runner)
-        requires runner_bound { (i : ℕ) → x ≡ Rank i → i < length table.now.tasks }
+        requires runner_bound { (i : ℕ) → x ≡ Rank i → i < length (sheet_of table.now).tasks }
         requires sized { length self.old.state.tasks ≡ 16 }
         requires all_below { AllBelow 65535 self.old.state.tasks }
         requires t_bound { self.old.state.t < 65535 }
-        ensures state_value { self.new.state ≡ with_tasks self.old.state (after_runner x table.now self.old.state.t self.old.state.tasks) }
-        ensures holders_value { self.new.holders ≡ after_runner_tick x table.now self.old.state.tasks self.new.state.tasks self.old.holders }
+        ensures state_value { self.new.state ≡ with_tasks self.old.state (after_runner x (sheet_of table.now) self.old.state.t self.old.state.tasks) }
+        ensures holders_value { self.new.holders ≡ after_runner_tick x (sheet_of table.now) self.old.state.tasks self.new.state.tasks self.old.holders }
         ensures due_stays { self.new.due ≡ self.old.due }
     {
         if let Runner::Rank(rank) = x {

@@ -13,8 +13,10 @@ use Rattle.rules.specs.Choice.{locks, ceiling}
 use Rattle.rules.specs.declared.TaskRecord.{TaskRecord}
 use Rattle.rules.proofs.Laws.{sure, below, and_no, length_row, row_at, smallest_found, smallest_there, smallest_le, smallest_none, row_same}
 use Rattle.table.specs.Steps.{meant, said}
+use Rattle.table.specs.Tasks.{task_of}
 use Rattle.table.specs.declared.Step.{Step as Table·Step}
-use Rattle.table.proofs.Laws.{drop_past, task_read}
+use Rattle.table.specs.declared.task.Task.{Task as Table·Task}
+use Rattle.table.proofs.Laws.{drop_past, task_read, many_tasks}
 use Rattle.holders.specs.Holders.{holder, holders, first_with, entry_after, after_step, after_steps, after_job, only_locks}
 
 -- sixteen entries f, of which entry s becomes another
@@ -151,19 +153,19 @@ module _ (sheet : Sheet) (records : List TaskRecord) where
   holds_past j k l = rw (get_or-eq_default sheet.tasks no_task {n = j} l, take-nil (record_at records j).job.position) (and_no (record_at records j).job.pending false refl)
 
 -- the loop over the ranks
-module _ (sheet : Sheet) (tasks : List Task) (same : tasks ≡ sheet.tasks) (few : length tasks ≤ 16) (i : ℕ) where
+module _ (sheet : Sheet) (tasks : List Table·Task) (same : map task_of tasks ≡ sheet.tasks) (few : length tasks ≤ 16) (i : ℕ) where
   count : length tasks ≡ length sheet.tasks
-  count = ap length same
+  count = many_tasks sheet tasks same
 
   module _ (records : List TaskRecord) (hs : List ℕ) (inv : hs ≡ row 16 (first_with (holds sheet records) i [])) where
-    module _ (l : i < length tasks) (task : Task) (is : task ≡ get_or tasks i task) (more : List ℕ) where
-      ranked : more ≡ after_job i task (get_or records i blank).job hs → more ≡ row 16 (first_with (holds sheet records) (i + 1) [])
+    module _ (l : i < length tasks) (task : Table·Task) (is : task ≡ get_or tasks i task) (more : List ℕ) where
+      ranked : more ≡ after_job i (task_of task) (get_or records i blank).job hs → more ≡ row 16 (first_with (holds sheet records) (i + 1) [])
       unfolding record_at
       ranked h =
           h ∙ ap₂ (λ (task : Task) (hs : List ℕ). after_job i task (get_or records i blank).job hs) (task_read sheet tasks same i l task is) inv ∙ job_held sheet records i (omega arith)
 
       -- a pending job has passed the steps before its position
-      pub job_holds : (get_or records i blank).job.pending ≡ true → (steps : List (List ℕ)) → map said steps ≡ task.steps → (passed : List ℕ)
+      pub job_holds : (get_or records i blank).job.pending ≡ true → (steps : List (List ℕ)) → map said steps ≡ (task_of task).steps → (passed : List ℕ)
           → passed ≡ after_steps i (take ((get_or records i blank).job.position - 0) (map said steps)) hs → more ≡ passed
           → more ≡ row 16 (first_with (holds sheet records) (i + 1) [])
       unfolding after_job behind
@@ -211,9 +213,9 @@ abbrev pub has_lock : Sheet → (j s : ℕ) → Bool
 has_lock sheet j s = locks (task_at sheet j) s
 
 -- the loops over the ranks and their steps
-module _ (sheet : Sheet) (tasks : List Task) (same : tasks ≡ sheet.tasks) (few : length tasks ≤ 16) (i : ℕ) where
+module _ (sheet : Sheet) (tasks : List Table·Task) (same : map task_of tasks ≡ sheet.tasks) (few : length tasks ≤ 16) (i : ℕ) where
   module _ (cs : List ℕ) (inv : cs ≡ row 16 (first_with (has_lock sheet) i [])) where
-    pub ceilings_more : i < length tasks → (task : Task) → task ≡ get_or tasks i task → (steps : List (List ℕ)) → map said steps ≡ task.steps
+    pub ceilings_more : i < length tasks → (task : Table·Task) → task ≡ get_or tasks i task → (steps : List (List ℕ)) → map said steps ≡ (task_of task).steps
         → after_steps i (only_locks (map said steps)) cs ≡ row 16 (first_with (has_lock sheet) (i + 1) [])
     unfolding locks held among any
     ceilings_more l task is steps e =
@@ -225,7 +227,7 @@ module _ (sheet : Sheet) (tasks : List Task) (same : tasks ≡ sheet.tasks) (few
     pub ceilings_all : length tasks ≤ i → i ≤ length tasks → cs ≡ row 16 (ceiling sheet)
     unfolding ceiling locks task_at any
     ceilings_all u v =
-        let n = ap length same in
+        let n = many_tasks sheet tasks same in
         inv ∙ ranks_all (has_lock sheet) i (omega arith) (λ j k m. ap (λ (t : Task). locks t k) (get_or-eq_default sheet.tasks no_task (omega arith)))
 
 -- within a rank

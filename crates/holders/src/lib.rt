@@ -7,6 +7,7 @@ ghost use Rattle.rules.specs.Words.{row};
 ghost use Rattle.rules.specs.Sheet.{Task as Rules·Task};
 ghost use Rattle.rules.specs.Choice.{ceiling};
 ghost use Rattle.table.specs.Steps.{meant, said};
+ghost use Rattle.table.specs.Table.{sheet_of};
 ghost use Rattle.holders.specs.Holders.{holders, after_step, after_steps, after_tick};
 
 use rules::{Job, State};
@@ -53,7 +54,7 @@ pub fn after_steps(steps: &[[u8; 3]], from: usize, to: usize, i: u8, mut hs: [u8
 
 // The holder of each semaphore, 255 if none.
 pub fn holders_of(table: &Table, st: State) -> [u8; 16]
-    ensures { result ≡ holders table.now st.tasks }
+    ensures { result ≡ holders (sheet_of table.now) st.tasks }
 {
     let mut hs = [255; 16];
     for (i, task) in table.tasks().iter().enumerate() {
@@ -80,7 +81,7 @@ pub fn holders_after(steps: &[[u8; 3]], i: u8, before: Job, after: Job, hs: [u8;
 
 // The ceiling of each semaphore: the smallest rank that has a lock of it; 255 if none.
 pub fn ceilings_of(table: &Table) -> [u8; 16]
-    ensures { result ≡ row 16 (ceiling table.now) }
+    ensures { result ≡ row 16 (ceiling (sheet_of table.now)) }
 {
     let mut cs = [255; 16];
     for (i, task) in table.tasks().iter().enumerate() {
@@ -107,24 +108,25 @@ impl<'a> Model for Plan<'a> {
     ghost use Rattle.rules.specs.Sheet.{Sheet};
     ghost use Rattle.rules.specs.Words.{row};
     ghost use Rattle.rules.specs.Choice.{ceiling};
+    ghost use Rattle.table.specs.Table.{sheet_of};
 
     ghost Value = { Sheet };
 
-    ghost view = { λ p. p.table };
+    ghost view = { λ p. sheet_of p.table };
 
-    ghost invariant = { λ p. p.ceilings ≡ row 16 (ceiling p.table) };
+    ghost invariant = { λ p. p.ceilings ≡ row 16 (ceiling (sheet_of p.table)) };
 }
 
 impl<'a> Plan<'a> {
     pub fn new(table: Table<'a>) -> Plan<'a>
-        ensures { result ≡ table.entry }
+        ensures { result ≡ sheet_of table.entry }
     {
         let ceilings = ceilings_of(&table);
         Plan { table, ceilings }
     }
 
     pub fn table(&self) -> &Table<'a>
-        ensures { result.now ≡ self.now }
+        ensures { sheet_of result.now ≡ self.now }
     {
         &self.table
     }

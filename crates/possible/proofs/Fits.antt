@@ -1,5 +1,5 @@
 -- Laws of the tests on one record, each in the words of document 01's sentence.
-use Rattle.std.proofs.Common.{ℕ, ◌≤◌, ◌<◌, ◌≡◌, refl, sym, ap, ◌∙◌, List, [], ◌∷◌, Bool, true, false, not, ◌&&◌, Some, None, length, get_or, drop, if◌then◌else◌}
+use Rattle.std.proofs.Common.{ℕ, ◌≤◌, ◌<◌, ◌≡◌, refl, sym, ap, ◌∙◌, List, [], ◌∷◌, Bool, true, false, not, ◌&&◌, Some, None, length, get_or, drop, map, if◌then◌else◌}
 use Rattle.std.proofs.Math.ListN.{get_or-eq_default}
 use borrow.Author.Tests.{le-leb, lt-leb}
 use Rattle.rules.specs.Words.{◌<?◌, ◌≤?◌, ◌=?◌, ◌⇒◌, within}
@@ -9,9 +9,11 @@ use Rattle.rules.specs.Record.{ahead, stands_well, job_fits}
 use Rattle.rules.specs.declared.TaskRecord.{TaskRecord}
 use Rattle.rules.proofs.Laws.{and_no, and_true}
 use Rattle.table.specs.Steps.{here}
+use Rattle.table.specs.Tasks.{task_of}
 use Rattle.table.specs.declared.Step.{Step}
 use Rattle.table.specs.declared.Step.TheVariants.{Run, Lock, Unlock}
-use Rattle.table.proofs.Laws.{task_read}
+use Rattle.table.specs.declared.task.Task.{Task as Table·Task}
+use Rattle.table.proofs.Laws.{many_tasks, task_read}
 
 -- how a job stands, by the step that it stands at
 pub stands_by : (steps : List Rules·Step) (left : ℕ) → stands_well steps left
@@ -36,14 +38,14 @@ zero_fits t x = go x.job.pending (zeros (place x.job)) (zeros (counted x.counts)
     go false false c = refl
 
 -- below n the job decides, and from n on the record must be zero
-module _ (sheet : Sheet) (t i : ℕ) (x : TaskRecord) (tasks : List Task) (same : tasks ≡ sheet.tasks) where
-  pub in_rank : (task : Task) → i < length tasks → task ≡ get_or tasks i task → (b : Bool) → b ≡ job_fits t task x.job
+module _ (sheet : Sheet) (t i : ℕ) (x : TaskRecord) (tasks : List Table·Task) (same : map task_of tasks ≡ sheet.tasks) where
+  pub in_rank : (task : Table·Task) → i < length tasks → task ≡ get_or tasks i task → (b : Bool) → b ≡ job_fits t (task_of task) x.job
       → b ≡ (job_fits t (task_at sheet i) x.job && (length sheet.tasks ≤? i ⇒ zero_record x))
   in_rank task l is b eb =
-      eb ∙ ap (λ (task : Task). job_fits t task x.job) (task_read sheet tasks same i l task is) ∙ sym (rw (lt-leb (length sheet.tasks) i (rw same at l)) (and_true _))
+      eb ∙ ap (λ (task : Task). job_fits t task x.job) (task_read sheet tasks same i l task is) ∙ sym (rw (lt-leb (length sheet.tasks) i (rw (many_tasks sheet tasks same) at l)) (and_true _))
 
   pub past_last : length tasks ≤ i → (b : Bool) → b ≡ zero_record x → b ≡ (job_fits t (task_at sheet i) x.job && (length sheet.tasks ≤? i ⇒ zero_record x))
   unfolding task_at
   past_last l b eb =
-      let m : length sheet.tasks ≤ i = rw same at l in
+      let m : length sheet.tasks ≤ i = rw (many_tasks sheet tasks same) at l in
       eb ∙ sym (rw (le-leb (length sheet.tasks) i m, get_or-eq_default sheet.tasks no_task {n = i} m) (zero_fits t x))

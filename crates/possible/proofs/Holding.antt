@@ -9,7 +9,9 @@ use Rattle.rules.specs.declared.Job.{Job}
 use Rattle.rules.specs.declared.TaskRecord.{TaskRecord}
 use Rattle.rules.proofs.Laws.{sure, below, and_at, true_false, and_left, and_right, and_both, implied, implies_no, implies_yes, denied, every_same, every_at, every_of, not_every, every_no, row_at, smallest_le, smallest_there, smallest_none, row_same}
 use Rattle.table.specs.Steps.{said}
-use Rattle.table.proofs.Laws.{task_read}
+use Rattle.table.specs.Tasks.{task_of}
+use Rattle.table.specs.declared.task.Task.{Task as Table·Task}
+use Rattle.table.proofs.Laws.{many_tasks, task_read}
 use Rattle.holders.specs.Holders.{holder, holders, first_with, after_steps}
 use Rattle.holders.proofs.Holders.{stepped, holds_past, holder_at}
 use Rattle.possible.specs.Holding.{same_holder, same_holders, holds_alone}
@@ -87,8 +89,8 @@ module _ (sheet : Sheet) (records : List TaskRecord) (hs : List ℕ) (eh : hs �
 
 -- the loop over the ranks
 module _ (sheet : Sheet) (records : List TaskRecord) (hs : List ℕ) (eh : hs ≡ holders sheet records)
-    (tasks : List Task) (same : tasks ≡ sheet.tasks) (few : length tasks ≤ 16) (i : ℕ) where
-  module _ (l : i < length tasks) (task : Task) (is : task ≡ get_or tasks i task) (b : Bool) (eb : b ≡ holds_alone i task (get_or records i blank).job hs) where
+    (tasks : List Table·Task) (same : map task_of tasks ≡ sheet.tasks) (few : length tasks ≤ 16) (i : ℕ) where
+  module _ (l : i < length tasks) (task : Table·Task) (is : task ≡ get_or tasks i task) (b : Bool) (eb : b ≡ holds_alone i (task_of task) (get_or records i blank).job hs) where
     by_rank_lem : b ≡ holds_alone i (task_at sheet i) (record_at records i).job hs
     unfolding record_at
     by_rank_lem = eb ∙ ap (λ (task : Task). holds_alone i task (get_or records i blank).job hs) (task_read sheet tasks same i l task is)
@@ -101,4 +103,4 @@ module _ (sheet : Sheet) (records : List TaskRecord) (hs : List ℕ) (eh : hs �
     rank_more h inv k m = and_at (λ k. holds_alone k (task_at sheet k) (record_at records k).job hs ≡ true) i inv (sym by_rank_lem ∙ not-false b h) k (omega arith)
 
   pub ranks_all : length tasks ≤ i → ((k : ℕ) → k < i → holds_alone k (task_at sheet k) (record_at records k).job hs ≡ true) → true ≡ none_held_by_two sheet records
-  ranks_all l inv = all_alone sheet records hs eh (λ k m. inv k (omega (arith, ap length same)))
+  ranks_all l inv = all_alone sheet records hs eh (λ k m. inv k (omega (arith, many_tasks sheet tasks same)))

@@ -7,6 +7,8 @@ ghost use Rattle.rules.specs.Words.{◌≤?◌, ◌⇒◌};
 ghost use Rattle.rules.specs.Sheet.{task_at};
 ghost use Rattle.rules.specs.Fields.{zero_record};
 ghost use Rattle.rules.specs.Record.{last_fits, stands_well, job_fits, present_fits, record_fits, none_held_by_two, possible};
+ghost use Rattle.table.specs.Table.{sheet_of};
+ghost use Rattle.table.specs.Tasks.{task_of};
 ghost use Rattle.possible.specs.Records.{records_fit};
 ghost use Rattle.possible.specs.Holding.{same_holders, holds_alone};
 
@@ -25,7 +27,7 @@ fn last_fits(n: usize, t: u16, j: LastJob) -> bool
 // (a pending one) stands at a run with 1 to its full length left, or at a lock with 0 left;
 #[tactic(auto, using(crate::proofs::Fits::stands_by), unfolding(rules::specs::Words::within))]
 fn stands_well(task: &Task, position: usize, left: u16) -> bool
-    ensures { result ≡ stands_well (drop position task.now.steps) left }
+    ensures { result ≡ stands_well (drop position (task_of task.now).steps) left }
 {
     match task.step_at(position) {
         Some(Step::Run(full)) => (1..=full).contains(&left),
@@ -38,7 +40,7 @@ fn stands_well(task: &Task, position: usize, left: u16) -> bool
 // stands well;
 #[tactic(auto, unfolding(rules::specs::Record::job_fits, rules::specs::Record::ahead))]
 fn job_fits(task: &Task, t: u16, j: Job) -> bool
-    ensures { result ≡ job_fits t task.now j }
+    ensures { result ≡ job_fits t (task_of task.now) j }
 {
     if j.pending {
         j.release < t && stands_well(task, j.position as usize, j.left)
@@ -58,7 +60,7 @@ fn present_fits(t: u16, x: TaskRecord) -> bool
 // a job fits its task, and records at n and above are zero;
 #[tactic(auto, using(crate::proofs::Fits::past_last))]
 fn rank_fits(table: &Table, t: u16, i: usize, x: TaskRecord) -> bool
-    ensures { result ≡ job_fits t (task_at table.now i) x.job && (length table.now.tasks ≤? i ⇒ zero_record x) }
+    ensures { result ≡ job_fits t (task_at (sheet_of table.now) i) x.job && (length (sheet_of table.now).tasks ≤? i ⇒ zero_record x) }
 {
     match table.tasks().get(i) {
         Some(task) => job_fits(task, t, x.job),
@@ -69,14 +71,14 @@ fn rank_fits(table: &Table, t: u16, i: usize, x: TaskRecord) -> bool
 // The record of rank i: every count and worst response is at most t, and all of the above.
 #[tactic(auto, unfolding(rules::specs::Record::record_fits))]
 fn record_fits(table: &Table, t: u16, i: usize, x: TaskRecord) -> bool
-    ensures { result ≡ record_fits table.now t i x }
+    ensures { result ≡ record_fits (sheet_of table.now) t i x }
 {
     record::counts_fit(t, x.counts) && present_fits(t, x) && rank_fits(table, t, i, x)
 }
 
 // The sixteen records.
 fn records_fit(table: &Table, st: State) -> bool
-    ensures { result ≡ records_fit table.now st }
+    ensures { result ≡ records_fit (sheet_of table.now) st }
 {
     let t = st.t;
     st.tasks
@@ -95,7 +97,7 @@ fn same_holders(own: [u8; 16], hs: [u8; 16]) -> bool
 // Each semaphore that a job of rank i holds has rank i for its holder in `hs`.
 fn holds_alone(task: &Task, j: Job, i: u8, hs: [u8; 16]) -> bool
     requires { i < 255 }
-    ensures { result ≡ holds_alone i task.now j hs }
+    ensures { result ≡ holds_alone i (task_of task.now) j hs }
 {
     let steps = task.steps();
     !j.pending || same_holders(after_steps(steps, 0, j.position as usize, i, [255; 16]), hs)
@@ -103,7 +105,7 @@ fn holds_alone(task: &Task, j: Job, i: u8, hs: [u8; 16]) -> bool
 
 // no semaphore is held by two: where two hold one, the holder is only one of them.
 fn none_held_by_two(table: &Table, st: State) -> bool
-    ensures { result ≡ none_held_by_two table.now st.tasks }
+    ensures { result ≡ none_held_by_two (sheet_of table.now) st.tasks }
 {
     let hs = holders_of(table, st);
     for (i, task) in table.tasks().iter().enumerate() {
@@ -117,7 +119,7 @@ fn none_held_by_two(table: &Table, st: State) -> bool
 // A state is possible when: t is at most 60,000; every count is at most t, that of switches too; and all of the above.
 #[tactic(auto, unfolding(rules::specs::Record::possible, crate::specs::Records::records_fit))]
 pub fn possible_state(table: &Table, st: State) -> bool
-    ensures { result ≡ possible table.now st }
+    ensures { result ≡ possible (sheet_of table.now) st }
 {
     st.t <= 60000
         && st.switches <= st.t

@@ -3,16 +3,17 @@
 // a refusal: specs/Reader.antt says what the answers mean, and what is read stands in the rules.
 #![tactic(auto)]
 
-ghost use Rattle.std.specs.Prelude.{◌≡◌, ◌*◌, ◌≤◌, List, [], length, false, IfOk};
+ghost use Rattle.std.specs.Prelude.{◌≡◌, ◌*◌, ◌<◌, ◌≤◌, List, length, set, take, map, false, IfOk};
 ghost use Rattle.rules.specs.Sheet.{Step as Rules·Step};
 ghost use Rattle.rules.specs.Reading.{read_head, head_length, read_task_head, misplaced_in, read_step, read_task, read_tasks, read_sheet};
 ghost use Rattle.rules.specs.Laws.{StepLimits};
 ghost use Rattle.rules.specs.Coded.{reading};
 ghost use Rattle.table.specs.Steps.{meant};
+ghost use Rattle.table.specs.Tasks.{task_of};
+ghost use Rattle.table.specs.Table.{sheet_of};
 ghost use Rattle.steps.specs.Nesting.{open_behind};
 ghost use Rattle.sheet.specs.Reader.{with_rest, steps_there};
 
-use arrayvec::ArrayVec;
 use rules::{Head, Refusal};
 use std::marker::Model;
 use steps::{Nest, known_step};
@@ -152,7 +153,7 @@ fn read_steps<'a>(
 ) -> Result<(Task<'a>, &'a [u8]), Refusal>
     requires semaphores { m ≤ 16 }
     requires long { 3 * own.count ≤ length bytes.now }
-    ensures { reading (λ (task, rest). (task, rest.now)) result ≡ steps_there m i own bytes.now }
+    ensures { reading (λ (task, rest). (task_of task, rest.now)) result ≡ steps_there m i own bytes.now }
 {
     let mut nest = Nest::new();
     let mut rest = bytes;
@@ -172,29 +173,36 @@ fn read_steps<'a>(
 #[tactic(auto, using(crate::proofs::Parts::parts_in_turn))]
 fn read_task(head: Head, i: u8, bytes: &[u8]) -> Result<(Task<'_>, &[u8]), Refusal>
     requires { head.semaphores ≤ 16 }
-    ensures { reading (λ (task, rest). (task, rest.now)) result ≡ read_task head i bytes.now }
+    ensures { reading (λ (task, rest). (task_of task, rest.now)) result ≡ read_task head i bytes.now }
 {
     let (own, rest) = read_task_head(head, i, bytes)?;
     read_steps(head.semaphores, i, own, rest)
 }
 
-// The tasks behind the head, by rank, where the table is to have them.
+// Puts a value at a place of a row. (Of any type, since the checker has no rule yet for writing an element that holds a reference.)
+fn put<T: Copy>(x: T, i: usize, row: &mut [T; 16])
+    requires { i < 16 }
+    ensures { row.new ≡ set row.old i x }
+{
+    row[i] = x;
+}
+
+// The tasks behind the head, by rank, in the row that the table takes.
 #[tactic(auto, using(crate::proofs::Tasks::tasks_in_turn))]
 fn read_tasks<'a>(
     head: Head,
     bytes: &'a [u8],
-    tasks: &mut ArrayVec<Task<'a>, 16>,
+    tasks: &mut [Task<'a>; 16],
 ) -> Result<&'a [u8], Refusal>
     requires few { head.n ≤ 16 }
     requires semaphores { head.semaphores ≤ 16 }
-    requires none { tasks.old.items ≡ [] }
-    ensures { reading (λ rest. (tasks.new.items, rest.now)) result
+    ensures { reading (λ rest. (take head.n (map task_of tasks.new), rest.now)) result
         ≡ read_tasks head 0 head.n bytes.now }
 {
     let mut rest = bytes;
     for i in 0..head.n {
         let (task, next) = read_task(head, i, rest)?;
-        tasks.push(task);
+        put(task, usize::from(i), tasks);
         rest = next;
     }
     Ok(rest)
@@ -203,13 +211,13 @@ fn read_tasks<'a>(
 // The sheet: its table, or why it is turned away. 13 comes last.
 #[tactic(auto, using(crate::proofs::Parts::parts_in_turn))]
 pub fn read_sheet(s: &[u8]) -> Result<Table<'_>, Refusal>
-    ensures { reading (λ t. t) result ≡ read_sheet s.now }
+    ensures { reading sheet_of result ≡ read_sheet s.now }
 {
     let (head, bytes) = read_head(s)?;
-    let mut tasks = ArrayVec::new();
+    let mut tasks = [Task::default(); 16];
     let rest = read_tasks(head, bytes, &mut tasks)?;
     if !rest.is_empty() {
         return Err(Refusal::BytesLeft);
     }
-    Ok(Table::new(head.mode, head.semaphores, tasks))
+    Ok(Table::new(s, head, tasks))
 }

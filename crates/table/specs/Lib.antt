@@ -1,2 +1,4 @@
 pub mod Table
+pub mod Tasks
 pub mod Steps
+pub mod Limits

@@ -1,16 +1,18 @@
-// The table of a sheet: its mode, its semaphores and its tasks, whose steps stand in the sheet's bytes, three for each. A clause
-// sees a table as document 01's sheet, and a task as its task.
+// The table of a sheet: its head and its tasks, whose steps stand in the sheet's bytes, three for each. A clause says document 01's
+// sheet and task by `sheet_of` and `task_of`.
 #![tactic(auto)]
 
-ghost use Rattle.std.specs.Prelude.{◌≡◌, ◌+◌, ◌<◌, ◌≤◌, [], ◌∷◌, ◌++◌, length, drop, map};
-ghost use Rattle.rules.specs.Sheet.{is_run, is_lock, is_unlock, task_at};
-ghost use Rattle.rules.specs.Choice.{full};
-ghost use Rattle.rules.specs.Laws.{All, StepLimits};
-ghost use Rattle.table.specs.Steps.{meant, said, here, semaphore_in};
-ghost use Rattle.table.specs.Table.{Accepted};
+mod task;
 
-use arrayvec::ArrayVec;
-use std::marker::Model;
+ghost use Rattle.std.specs.Prelude.{◌≡◌, ◌<◌, ◌≤◌, [], ◌∷◌, length, drop, map};
+ghost use Rattle.rules.specs.Sheet.{is_run, is_lock, is_unlock, task_at};
+ghost use Rattle.rules.specs.Reading.{read, read_sheet};
+ghost use Rattle.rules.specs.Choice.{full};
+ghost use Rattle.table.specs.Steps.{meant, said, here, semaphore_in};
+ghost use Rattle.table.specs.Tasks.{task_of, sheet_with};
+
+use rules::Head;
+pub use task::Task;
 
 // A step runs for some ticks, locks a semaphore or unlocks one.
 #[derive(Clone, Copy, PartialEq, Eq, Debug)]
@@ -89,169 +91,69 @@ pub fn step_at(steps: &[[u8; 3]], p: usize) -> Option<Step>
     Some(Step::from(*bytes))
 }
 
-// A task: its period is at least 1, and its steps, which stand in the sheet's bytes, keep document 01's limits.
-#[derive(Clone, Drop)]
-pub struct Task<'a> {
-    period: u16,
-    offset: u16,
-    steps: &'a [[u8; 3]],
-}
-
-impl<'a> Model for Task<'a> {
-    ghost use Rattle.std.specs.Prelude.{◌≤◌, length, map};
-    ghost use Rattle.rules.specs.Sheet.{Task as Rules·Task};
-    ghost use Rattle.rules.specs.Laws.{All, StepLimits};
-    ghost use Rattle.table.specs.Steps.{said};
-
-    ghost Value = { Rules·Task };
-
-    ghost view = { λ t. record { period = t.period; offset = t.offset; steps = map said t.steps.now } };
-
-    ghost invariant = { λ t. (1 ≤ t.period) × (length t.steps.now ≤ 64) × All (StepLimits 16) (map said t.steps.now) };
-}
-
-// What stands in a place that no task has been put in yet.
-impl Default for Task<'_> {
-    fn default() -> Self {
-        Task::new(1, 0)
-    }
-}
-
-impl<'a> Task<'a> {
-    // A task that has no steps yet.
-    pub fn new(period: u16, offset: u16) -> Task<'a>
-        requires { 1 ≤ period }
-        ensures { result ≡ record { period = period; offset = offset; steps = [] } }
-    {
-        Task::of_steps(period, offset, &[])
-    }
-
-    // A task of these steps.
-    pub fn of_steps(period: u16, offset: u16, steps: &'a [[u8; 3]]) -> Task<'a>
-        requires at_least_one { 1 ≤ period }
-        requires few { length steps.now ≤ 64 }
-        requires limits { All (StepLimits 16) (map said steps.now) }
-        ensures { result ≡ record { period = period; offset = offset; steps = map said steps.now } }
-    {
-        Task {
-            period,
-            offset,
-            steps,
-        }
-    }
-
-    pub fn period(&self) -> u16
-        ensures value { result ≡ self.now.period }
-        ensures at_least_one { 1 ≤ result }
-    {
-        self.period
-    }
-
-    pub fn offset(&self) -> u16
-        ensures { result ≡ self.now.offset }
-    {
-        self.offset
-    }
-
-    // Its steps, as they stand in the sheet.
-    pub fn steps(&self) -> &'a [[u8; 3]]
-        ensures value { map said result.now ≡ self.now.steps }
-        ensures few { length result.now ≤ 64 }
-        ensures limits { All (StepLimits 16) self.now.steps }
-    {
-        self.steps
-    }
-
-    // How many steps it has.
-    pub fn count(&self) -> usize
-        ensures value { result ≡ length self.now.steps }
-        ensures few { result ≤ 64 }
-    {
-        self.steps.len()
-    }
-
-    // The step at a position, if one stands there.
-    pub fn step_at(&self, p: usize) -> Option<Step>
-        ensures { result ≡ here (drop p self.now.steps) }
-    {
-        step_at(self.steps, p)
-    }
-
-    // The ticks left on coming to a position: a run's full length, else 0.
-    #[tactic(auto, using(crate::proofs::Steps::full_here))]
-    pub fn full_at(&self, p: usize) -> u16
-        ensures { result ≡ full (drop p self.now.steps) }
-    {
-        self.step_at(p).map_or(0, |x| x.ticks())
-    }
-}
-
-// The table of a sheet that document 01 accepts.
-#[derive(Clone, Drop)]
+// The table of a sheet that document 01 accepts. The sheet's tasks are the first `head.n`. (The bytes are there for the fact that the
+// sheet is read from them; no code looks at them.)
+#[derive(Clone, Copy)]
 pub struct Table<'a> {
-    mode: u8,
-    semaphores: u8,
-    tasks: ArrayVec<Task<'a>, 16>,
-}
-
-impl<'a> Model for Table<'a> {
-    ghost use Rattle.rules.specs.Sheet.{Sheet};
-    ghost use Rattle.table.specs.Table.{Accepted};
-
-    ghost Value = { Sheet };
-
-    ghost view = { λ t. record { mode = t.mode; semaphores = t.semaphores; tasks = t.tasks.items } };
-
-    ghost invariant = { λ t. Accepted (record { mode = t.mode; semaphores = t.semaphores; tasks = t.tasks.items }) };
+    tasks: [Task<'a>; 16],
+    bytes: &'a [u8],
+    head: Head,
+    ghost few: { head.n ≤ 16 },
+    ghost sized: { length tasks ≡ 16 },
+    ghost reads: { read_sheet bytes.now ≡ read (sheet_with head (map task_of tasks)) },
 }
 
 impl<'a> Table<'a> {
-    pub fn new(mode: u8, semaphores: u8, tasks: ArrayVec<Task<'a>, 16>) -> Table<'a>
-        requires { Accepted (record { mode = mode; semaphores = semaphores; tasks = tasks.items }) }
-        ensures { result ≡ record { mode = mode; semaphores = semaphores; tasks = tasks.entry.items } }
+    ghost use Rattle.table.specs.Table.{Accepted, sheet_of};
+
+    // The table of these bytes, which are read as the head and as many of the tasks as it says.
+    #[tactic(auto, unfolding(crate::specs::Table::sheet_of))]
+    pub fn new(bytes: &'a [u8], head: Head, tasks: [Task<'a>; 16]) -> Table<'a>
+        requires few { head.n ≤ 16 }
+        requires reads { read_sheet bytes.now ≡ read (sheet_with head (map task_of tasks)) }
+        ensures { sheet_of result ≡ sheet_with head (map task_of tasks.entry) }
     {
-        Table {
-            mode,
-            semaphores,
-            tasks,
-        }
+        Table { tasks, bytes, head }
     }
 
+    #[tactic(auto, unfolding(crate::specs::Table::sheet_of, crate::specs::Tasks::sheet_with))]
     pub fn mode(&self) -> u8
-        ensures { result ≡ self.now.mode }
+        ensures { result ≡ (sheet_of self.now).mode }
     {
-        self.mode
+        self.head.mode
     }
 
+    #[tactic(auto, unfolding(crate::specs::Table::sheet_of, crate::specs::Tasks::sheet_with))]
     pub fn semaphores(&self) -> u8
-        ensures value { result ≡ self.now.semaphores }
+        ensures value { result ≡ (sheet_of self.now).semaphores }
         ensures few { result ≤ 16 }
     {
-        self.semaphores
+        self.head.semaphores
     }
 
     // How many tasks it has.
     pub fn len(&self) -> usize
-        ensures value { result ≡ length self.now.tasks }
+        ensures value { result ≡ length (sheet_of self.now).tasks }
         ensures few { result ≤ 16 }
     {
-        self.tasks.len()
+        usize::from(self.head.n)
     }
 
     // The tasks by rank.
     pub fn tasks(&self) -> &[Task<'a>]
-        ensures value { result.now ≡ self.now.tasks }
+        ensures value { map task_of result.now ≡ (sheet_of self.now).tasks }
+        ensures counted { length result.now ≡ length (sheet_of self.now).tasks }
         ensures few { length result.now ≤ 16 }
-        ensures accepted { Accepted self.now }
+        ensures accepted { Accepted (sheet_of self.now) }
     {
-        self.tasks.as_slice()
+        &self.tasks[..self.len()]
     }
 
     // The task of a rank.
     pub fn task(&self, i: usize) -> &Task<'a>
-        requires { i < length self.now.tasks }
-        ensures value { result.now ≡ task_at self.now i }
-        ensures accepted { Accepted self.now }
+        requires { i < length (sheet_of self.now).tasks }
+        ensures value { task_of result.now ≡ task_at (sheet_of self.now) i }
+        ensures accepted { Accepted (sheet_of self.now) }
     {
         &self.tasks()[i]
     }

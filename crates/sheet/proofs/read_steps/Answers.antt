@@ -2,6 +2,7 @@
 use Rattle.std.proofs.Common.{◌<◌, ◌≡◌, ◌*◌, ℕ, sym, ap, ◌∙◌, take, drop, arith}
 use Rattle.rules.specs.Reading.{TaskHead}
 use Rattle.std.proofs.lemmas.Result.{err_from_is_err_and}
+use Rattle.table.specs.Tasks.{task_of}
 use Rattle.sheet.proofs.Steps.{many_first, going_more, step_refused, sections_open, steps_stand, going_none, said_first, chunks_said, open_end, closed_end, same_task}
 use Rattle.sheet.proofs.read_steps.Goals as goal
 
@@ -45,5 +46,5 @@ returns c =
     let end : c.loop-k.k ≡ c.args.own.count = omega (arith, same, c.loop-k-test.false, c.loop-k.auto.k-end) in
     let there = chunks_said c.args.own.count c.args.bytes.now _ c.as_chunks.result.0.now c.requires.long (ap (λ (n : ℕ). take (3 * n) c.args.bytes.now) (c.from.ensures ∙ same)) c.as_chunks.ensures.front in
     let whole = steps_stand c.args.m c.args.i c.args.own c.args.bytes.now c.loop-k.rest.now c.loop-k.k _ γ.left (omega (arith, end)) (closed_end c.loop-k.nest _ γ.opens c.is_closed.result c.is_closed.ensures c.if-not-is_closed.false) in
-    same_task _ _ _ _ _ _ _ _ c.of_steps.result _ c.of_steps.ensures (ap (λ (own : TaskHead). own.period) c.own.view_is) (ap (λ (own : TaskHead). own.offset) c.own.view_is)
+    same_task _ _ _ _ _ _ _ _ (task_of c.of_steps.result) _ c.of_steps.ensures (ap (λ (own : TaskHead). own.period) c.own.view_is) (ap (λ (own : TaskHead). own.offset) c.own.view_is)
     (there ∙ ap (λ (n : ℕ). said_first n c.args.bytes.now) (sym end)) (γ.cursor ∙ ap (λ (n : ℕ). drop (3 * n) c.args.bytes.now) end) whole

@@ -1,5 +1,7 @@
 use Rattle.rules.proofs.Limits.{accepted_within_limits}
+use Rattle.table.specs.Tasks.{sheet_with}
 use Rattle.table.proofs.Table.semaphores.Goals as goal
 
 pub returns-clause-few : goal.returns-clause-few
-returns-clause-few c = let a = c.self.invariant in (accepted_within_limits a.0 _ a.1).semaphores
+unfolding sheet_with
+returns-clause-few c = let t = c.args.self.now in (accepted_within_limits t.bytes.now _ t.reads).semaphores

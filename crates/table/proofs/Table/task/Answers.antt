@@ -5,5 +5,5 @@ use Rattle.table.proofs.Table.task.Goals as goal
 
 pub returns-clause-value : goal.returns-clause-value
 returns-clause-value c =
-    let inside : c.args.i < length c.tasks.result.now = rw c.tasks.ensures.value c.requires in
+    let inside : c.args.i < length c.tasks.result.now = rw c.tasks.ensures.counted c.requires in
     search task_read
