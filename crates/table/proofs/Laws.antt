@@ -3,9 +3,10 @@ use Rattle.std.proofs.Common.{ℕ, zero, suc, ◌<◌, ◌≤◌, ◌≡◌, sym
 use Rattle.std.proofs.lemmas.List.{get_or-map, take-map, length-map, length-take-le}
 use lib.Seq.{drop-nil}
 use Rattle.rules.specs.Sheet.{Task as Rules·Task, Sheet, no_task, task_at}
-use Rattle.rules.specs.declared.Head.{Head}
 use Rattle.table.specs.Tasks.{task_of, sheet_with}
+use Rattle.table.specs.Table.{sheet_of}
 use Rattle.table.specs.declared.task.Task.{Task}
+use Rattle.table.specs.declared.Table.{Table}
 
 -- past the end of a row nothing is left
 pub drop_past : {A : Type 0} (l : List A) (n : ℕ) → length l ≤ n → drop n l ≡ []
@@ -13,14 +14,19 @@ drop_past [] n h = drop-nil n
 drop_past (x ∷ xs) zero h = absurd (omega arith)
 drop_past (x ∷ xs) (suc n) h = drop_past xs n (omega arith)
 
--- a sheet has as many tasks as its head says, the first of them
-pub head_counts : (head : Head) (tasks : List Task) → head.n ≤ length tasks → head.n ≡ length (sheet_with head (map task_of tasks)).tasks
-unfolding sheet_with
-head_counts head tasks h = sym (length-take-le head.n (map task_of tasks) (rw (length-map tasks task_of) h))
+-- a sheet has as many tasks as its head says
+pub head_counts : (table : Table) → table.head.n ≡ length (sheet_of table).tasks
+unfolding sheet_of sheet_with
+head_counts table =
+    let all = length-map table.tasks task_of in
+    sym (length-take-le table.head.n (map task_of table.tasks) (omega (arith, all, table.few, table.sized)))
 
-pub tasks_first : (head : Head) (tasks : List Task) (n : ℕ) → n ≡ head.n → map task_of (take n tasks) ≡ (sheet_with head (map task_of tasks)).tasks
-unfolding sheet_with
-tasks_first head tasks n e = sym (take-map task_of n tasks) ∙ ap (λ n. take n (map task_of tasks)) e
+-- its tasks are the first in the table
+pub tasks_first : (table : Table) (n : ℕ) → n ≡ length (sheet_of table).tasks → map task_of (take n table.tasks) ≡ (sheet_of table).tasks
+unfolding sheet_of sheet_with
+tasks_first table n e =
+    let first : n ≡ table.head.n = e ∙ sym (head_counts table) in
+    sym (take-map task_of n table.tasks) ∙ ap (λ n. take n (map task_of table.tasks)) first
 
 -- as many tasks as the sheet has
 pub many_tasks : (sheet : Sheet) (tasks : List Task) → map task_of tasks ≡ sheet.tasks → length tasks ≡ length sheet.tasks

@@ -1,8 +1,6 @@
 use Rattle.std.proofs.Common.{◌∙◌, ap, ◌+◌, arith, length}
 use Rattle.rules.specs.Sheet.{Sheet}
-use Rattle.table.specs.Table.{sheet_of}
 use Rattle.table.specs.Tasks.{task_of}
-use Rattle.table.proofs.Laws.{many_tasks}
 use Rattle.bounds.proofs.Bounds.{rest_task, rest_length, bound_begin, bound_turn, bound_end}
 use Rattle.bounds.proofs.bound_ticks.Goals as goal
 
@@ -17,6 +15,5 @@ loop-task-preserved c =
 
 pub returns : goal.returns
 returns c =
-    let many = many_tasks (sheet_of c.table.result.now) _ c.tasks.ensures.value in
-    let all = rest_length c.args.plan.now c.tasks.result.now (c.tasks.ensures.value ∙ ap (λ (x : Sheet). x.tasks) c.table.ensures) (c.args.i + 1) (omega (arith, many, ap (λ (x : Sheet). length x.tasks) c.table.ensures)) in
-    bound_end c.args.plan.now c.args.i (c.args.i + 1 + c.loop-task.task-index) c.loop-task.longest (omega (arith, all)) (omega (arith, c.tasks.ensures.few, many, ap (λ (x : Sheet). length x.tasks) c.table.ensures)) c.loop-task.invariant
+    let all = rest_length c.args.plan.now c.tasks.result.now (c.tasks.ensures.value ∙ ap (λ (x : Sheet). x.tasks) c.table.ensures) (c.args.i + 1) (omega (arith, c.tasks.ensures.counted, ap (λ (x : Sheet). length x.tasks) c.table.ensures)) in
+    bound_end c.args.plan.now c.args.i (c.args.i + 1 + c.loop-task.task-index) c.loop-task.longest (omega (arith, all)) (omega (arith, c.tasks.ensures.few, c.tasks.ensures.counted, ap (λ (x : Sheet). length x.tasks) c.table.ensures)) c.loop-task.invariant

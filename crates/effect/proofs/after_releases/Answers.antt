@@ -3,7 +3,7 @@ use mathlib.Core.Path.{sym, ◌∙◌}
 use native.Mathlib.Omega.{arith}
 use Rattle.std.proofs.Common.{rules}
 use Rattle.rules.specs.Record.{record_at}
-use Rattle.table.proofs.Laws.{many_tasks, task_read}
+use Rattle.table.proofs.Laws.{task_read}
 use Rattle.table.specs.Table.{sheet_of}
 use Rattle.effect.proofs.Laws.{roomy, releases_none, releases_all, releases_more, releases_no}
 use Rattle.effect.proofs.after_releases.Goals as goal
@@ -33,6 +33,4 @@ loop-i-preserved c =
 pub returns : goal.returns
 returns c =
     let l = c.loop-i in
-    let sheet = sheet_of c.args.table.now in
-    let many = many_tasks sheet _ c.tasks-task-items.ensures.value in
-    releases_all sheet c.args.st l.st l.i l.invariant (omega arith)
+    releases_all (sheet_of c.args.table.now) c.args.st l.st l.i l.invariant (omega (arith, c.tasks-task-items.ensures.counted))
