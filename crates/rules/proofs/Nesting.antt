@@ -15,6 +15,7 @@ use Rattle.rules.specs.declared.Head.{Head}
 use Rattle.rules.proofs.Reading.{both_read, passed, got, step_passed, task_read}
 use Rattle.rules.proofs.Laws.{true_false, and_left, and_right, or_cases, or_no}
 use Rattle.rules.specs.Laws.{placed, Nesting}
+pub use Rattle.rules.specs.Laws.{Distinct}
 
 -- the same test by what is held and whether the last step was a lock: it holds from any place of the steps on
 unfoldable pub nests : List ℕ → Bool → List Step → Bool
@@ -45,11 +46,6 @@ placed_nests before (lock s ∷ steps) = ap (λ (x : Bool). not (misplaced befor
     (placed_nests (before ++ (lock s ∷ [])) steps ∙ ap₂ (λ (h : List ℕ) (b : Bool). nests h b steps) (held_snoc [] before (lock s ∷ [])) (after_snoc before (lock s)))
 placed_nests before (unlock s ∷ steps) = ap (λ (x : Bool). not (misplaced before (unlock s)) && x)
     (placed_nests (before ++ (unlock s ∷ [])) steps ∙ ap₂ (λ (h : List ℕ) (b : Bool). nests h b steps) (held_snoc [] before (unlock s ∷ [])) (after_snoc before (unlock s)))
-
--- semaphores, no two of them the same: to take away the newest leaves the others
-abbrev pub Distinct : List ℕ → Type 0
-Distinct [] = Unit {0}
-Distinct (s ∷ h) = (among s h ≡ false) × Distinct h
 
 -- what is not held cannot be taken away
 without_absent : (s : ℕ) (h : List ℕ) → among s h ≡ false → without s h ≡ h

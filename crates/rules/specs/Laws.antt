@@ -3,7 +3,7 @@
 use Rattle.std.specs.Prelude.{ℕ, ◌*◌, ◌^◌, ◌≤◌, ◌<◌, ◌≡◌, ◌⊎◌, ◌↔◌, List, [], ◌∷◌, ◌++◌, Bool, true, false, not, ◌&&◌, length, take, replicate, ℤ, pos, negsuc, Option, Some, None, Err}
 use Rattle.std.specs.Int.Signed.{non_neg}
 use Rattle.std.specs.Int.RustNames.{unsigned_abs}
-use Rattle.rules.specs.Words.{◌≤?◌, any, leading}
+use Rattle.rules.specs.Words.{◌≤?◌, any, among, leading}
 use Rattle.rules.specs.Sheet.{Step, run, lock, unlock, Task, Sheet, task_at, Body, is_lock, is_lock_of, held}
 use Rattle.rules.specs.Reading.{Reading, read, refused, longest_sheet, misplaced, read_sheet, Numbers}
 use Rattle.rules.specs.Fields.{start, no_state}
@@ -35,6 +35,11 @@ Nesting = (steps : List Step) → (placed [] steps ≡ true) ↔ Body [] steps
 abbrev pub All : {A : Type 0} → (A → Type 0) → List A → Type 0
 All P [] = Unit {0}
 All P (x ∷ xs) = P x × All P xs
+
+-- No two numbers of a row are the same.
+abbrev pub Distinct : List ℕ → Type 0
+Distinct [] = Unit {0}
+Distinct (s ∷ h) = (among s h ≡ false) × Distinct h
 
 -- Document 01's limits on a step and on a task.
 abbrev pub StepLimits : (semaphores : ℕ) → Step → Type 0

@@ -7,10 +7,9 @@ use Rattle.rules.specs.Sheet.{Step, run, lock, unlock, Task, held, held_on_top}
 use Rattle.rules.specs.Reading.{Reading, byte, word, read, refused, refusal, Numbers, ◌>>=◌, refuse◌of◌at◌when◌, TaskHead, misplaced, read_step, read_steps}
 use Rattle.steps.specs.Nesting.{Open, open_behind, open_with}
 use Rattle.rules.proofs.Reading.{both_read, got, step_passed}
-use Rattle.rules.proofs.Nesting.{Distinct}
 use Rattle.table.specs.Steps.{said}
-use Rattle.rules.specs.Laws.{All, StepLimits}
-use Rattle.steps.proofs.Nesting.{behind_more}
+use Rattle.rules.specs.Laws.{All, Distinct, StepLimits}
+use Rattle.steps.proofs.Nesting.{behind_placed}
 use Rattle.sheet.specs.Reader.{with_rest, steps_there}
 use Rattle.sheet.proofs.Turns.{then_then, in_turn}
 
@@ -111,7 +110,7 @@ going_more m i own bytes nest rest k γ l few x next e lim nest' en =
     let count = many_first k bytes in
     let placed : misplaced (said_first k bytes) x ≡ false =
     subst (λ (y : Step). misplaced (said_first k bytes) y ≡ false) (ap (λ (p : Step × List ℕ). p.0) got_one) (step_passed m i (said_first k bytes) rest one.0 one.1).placed in
-    let nested = behind_more (said_first k bytes) x γ.apart placed in
+    let nested = behind_placed (said_first k bytes) x γ.apart placed in
     rw en (record {
       opens = ap (λ (o : Open). open_with o x) γ.opens ∙ nested.0 ∙ ap open_behind (sym more);
       apart = rw more nested.1;

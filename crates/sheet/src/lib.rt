@@ -219,5 +219,5 @@ pub fn read_sheet(s: &[u8]) -> Result<Table<'_>, Refusal>
     if !rest.is_empty() {
         return Err(Refusal::BytesLeft);
     }
-    Ok(Table::new(s, head, tasks))
+    Ok(Table::of_bytes(s, head, tasks))
 }

@@ -10,8 +10,9 @@ use borrow.Author.Tests.{leb-false, not-false}
 use Rattle.rules.specs.Words.{◌≤?◌, ◌=?◌, any, among}
 use Rattle.rules.specs.Sheet.{Step as Rules·Step, run, lock, unlock, is_lock, held_on_top, held, without}
 use Rattle.rules.specs.Reading.{misplaced_in, misplaced, after_lock}
+use Rattle.rules.specs.Laws.{Distinct}
 use Rattle.rules.proofs.Laws.{true_false, or_right, or_false, or_no}
-use Rattle.rules.proofs.Nesting.{held_snoc, after_snoc, or_too, Distinct, without_newest, newest}
+use Rattle.rules.proofs.Nesting.{held_snoc, after_snoc, or_too, without_newest, newest}
 use Rattle.table.specs.Steps.{meant}
 use Rattle.table.specs.declared.Step.{Step}
 use Rattle.table.specs.declared.Step.TheVariants.{Run, Lock, Unlock}
@@ -39,12 +40,24 @@ stepped q (run n) d e = (refl, d)
 stepped q (lock s) d e = (refl, (or_no (among s q.held) _ e, d))
 stepped q (unlock s) d e = let p = popped s q.held q.locked d e in (ap (λ (h : List ℕ). record { held = h; locked = false }) p.0, p.1)
 
-pub behind_more : (before : List Rules·Step) (x : Rules·Step) → Distinct (held before) → misplaced before x ≡ false
+-- the same of a nest that is known to be that one
+pub still_distinct : (q : Open) (x : Rules·Step) → misplaced_in q.held q.locked x ≡ false → (more : Open) → more ≡ open_with q x
+    → Distinct q.held → (more ≡ record { held = held_on_top q.held (x ∷ []); locked = is_lock x }) × Distinct more.held
+still_distinct q x placed more e d = let s = stepped q x d placed in (e ∙ s.0, rw e s.1)
+
+-- the nest of steps and one more, whatever they are,
+pub behind_more : (before : List Rules·Step) (x : Rules·Step)
+    → record { held = held_on_top (open_behind before).held (x ∷ []); locked = is_lock x } ≡ open_behind (before ++ (x ∷ []))
+unfolding held
+behind_more before x = rw (held_snoc [] before (x ∷ []), after_snoc before x) refl
+
+-- and of one more that is well placed
+pub behind_placed : (before : List Rules·Step) (x : Rules·Step) → Distinct (held before) → misplaced before x ≡ false
     → (open_with (open_behind before) x ≡ open_behind (before ++ (x ∷ []))) × Distinct (held (before ++ (x ∷ [])))
-unfolding held misplaced
-behind_more before x d e =
+unfolding misplaced
+behind_placed before x d e =
     let s = stepped (open_behind before) x d e in
-    let more : open_with (open_behind before) x ≡ open_behind (before ++ (x ∷ [])) = s.0 ∙ rw (held_snoc [] before (x ∷ []), after_snoc before x) refl in
+    let more : open_with (open_behind before) x ≡ open_behind (before ++ (x ∷ [])) = s.0 ∙ behind_more before x in
     (more, rw (← ap (λ (o : Open). o.held) more) s.1)
 
 -- the rules' word and std's

@@ -2,6 +2,7 @@
 use Rattle.std.specs.Prelude.{ℕ, List, ◌∷◌, Bool, true, false, drop}
 use Rattle.rules.specs.Sheet.{Step, run, lock, unlock, held}
 use Rattle.rules.specs.Reading.{after_lock}
+pub use Rattle.rules.specs.Laws.{Distinct}
 
 -- What 12 looks at: the semaphores that are held, the newest first, and whether a lock stands right before.
 pub record Open : Type 0 where

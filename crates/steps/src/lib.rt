@@ -4,13 +4,17 @@
 
 ghost use Rattle.std.specs.Prelude.{◌≡◌, ◌↔◌, [], ◌∷◌, ◌≤◌, true, false, not, length, reverse, IsSome, IfSome};
 ghost use Rattle.rules.specs.Words.{◌≤?◌};
+ghost use Rattle.rules.specs.Sheet.{is_lock, held_on_top};
 ghost use Rattle.rules.specs.Reading.{known, step_of, misplaced_in};
 ghost use Rattle.rules.specs.Laws.{StepLimits};
 ghost use Rattle.table.specs.Steps.{meant};
-ghost use Rattle.steps.specs.Nesting.{open_behind, open_with};
+ghost use Rattle.steps.specs.Nesting.{Distinct, open_behind, open_with};
 
 use std::marker::Model;
 use table::Step;
+
+#[cfg(test)]
+mod tests;
 
 // 11: the step of a kind and a value, unless its kind is unknown or its value out of range.
 #[tactic(auto, using(std::proofs::lemmas::Bool::Decides::nat_tests), unfolding(rules::specs::Reading::known, rules::specs::Reading::step_of, rules::specs::Words::within))]
@@ -114,7 +118,9 @@ impl Nest {
     // Behind a step that is well placed.
     pub fn enter(&mut self, step: Step)
         requires { misplaced_in self.old.held self.old.locked (meant step) ≡ false }
-        ensures { self.new ≡ open_with self.old (meant step) }
+        ensures value { self.new ≡ open_with self.old (meant step) }
+        ensures apart { Distinct self.old.held
+            → (self.new ≡ record { held = held_on_top self.old.held (meant step ∷ []); locked = is_lock (meant step) }) × Distinct self.new.held }
     {
         self.locked = step.is_lock();
         match step {

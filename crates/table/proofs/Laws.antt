@@ -1,7 +1,9 @@
 -- Laws of the table: past the end of a row, the tasks of its sheet, and the task of a rank.
-use Rattle.std.proofs.Common.{ℕ, zero, suc, ◌<◌, ◌≤◌, ◌≡◌, sym, ap, ◌∙◌, List, [], ◌∷◌, length, get_or, take, drop, map, arith}
+use Rattle.std.proofs.Common.{ℕ, zero, suc, ◌<◌, ◌≤◌, ◌≡◌, refl, sym, ap, ◌∙◌, List, [], ◌∷◌, length, get_or, take, drop, map, true, Result, Ok, Err, arith}
+use Rattle.std.specs.Result.{IsOk, IfOk, result_unwrap_or}
 use Rattle.std.proofs.lemmas.List.{get_or-map, take-map, length-map, length-take-le}
 use lib.Seq.{drop-nil}
+use Rattle.rules.proofs.Laws.{true_false}
 use Rattle.rules.specs.Sheet.{Task as Rules·Task, Sheet, no_task, task_at}
 use Rattle.table.specs.Tasks.{task_of, sheet_with}
 use Rattle.table.specs.Table.{sheet_of}
@@ -27,6 +29,11 @@ unfolding sheet_of sheet_with
 tasks_first table n e =
     let first : n ≡ table.head.n = e ∙ sym (head_counts table) in
     sym (take-map task_of n table.tasks) ∙ ap (λ n. take n (map task_of table.tasks)) first
+
+-- an array that is taken out of a full row has what stood there
+pub taken_out : {A E : Type 0} (r : Result A E) (other row items : A) → IsOk r → IfOk r (λ x. x ≡ items) → row ≡ result_unwrap_or r other → row ≡ items
+taken_out (Ok x) other row items some same e = e ∙ same
+taken_out (Err x) other row items some same e = true_false true refl (sym some)
 
 -- as many tasks as the sheet has
 pub many_tasks : (sheet : Sheet) (tasks : List Task) → map task_of tasks ≡ sheet.tasks → length tasks ≡ length sheet.tasks

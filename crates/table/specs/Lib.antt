@@ -2,3 +2,4 @@ pub mod Table
 pub mod Tasks
 pub mod Steps
 pub mod Limits
+pub mod Bytes

@@ -2,7 +2,10 @@
 // sheet and task by `sheet_of` and `task_of`.
 #![tactic(auto)]
 
+mod own_task;
 mod task;
+#[cfg(test)]
+mod tests;
 
 ghost use Rattle.std.specs.Prelude.{◌≡◌, ◌<◌, ◌≤◌, [], ◌∷◌, length, drop, map};
 ghost use Rattle.rules.specs.Sheet.{is_run, is_lock, is_unlock, task_at};
@@ -10,7 +13,10 @@ ghost use Rattle.rules.specs.Reading.{read, read_sheet};
 ghost use Rattle.rules.specs.Choice.{full};
 ghost use Rattle.table.specs.Steps.{meant, said, here, semaphore_in};
 ghost use Rattle.table.specs.Tasks.{task_of, sheet_with};
+ghost use Rattle.table.specs.Bytes.{step_bytes, sheet_bytes};
 
+use arrayvec::ArrayVec;
+pub use own_task::OwnTask;
 use rules::Head;
 pub use task::Task;
 
@@ -20,6 +26,15 @@ pub enum Step {
     Run(u16),
     Lock(u16),
     Unlock(u16),
+}
+
+// What stands in a place that no step has been put in yet.
+impl Default for Step {
+    fn default() -> Step
+        ensures { result ≡ Step.Run 0 }
+    {
+        Step::Run(0)
+    }
 }
 
 // The step that three bytes are: a kind, and a 16-bit number behind it.
@@ -35,6 +50,22 @@ impl From<[u8; 3]> for Step {
             2 => Step::Lock(value),
             _ => Step::Unlock(value),
         }
+    }
+}
+
+// The three bytes of a step, which are read as it.
+impl From<Step> for [u8; 3] {
+    ghost from_gives = { λ step bytes. (bytes ≡ step_bytes (meant step)) × (said bytes ≡ meant step) };
+
+    #[tactic(auto, unfolding(crate::specs::Bytes::step_bytes, crate::specs::Bytes::big, crate::specs::Steps::said, rules::specs::Reading::step_of, rules::specs::Reading::word, rules::specs::Reading::byte))]
+    fn from(step: Step) -> [u8; 3] {
+        let (kind, value) = match step {
+            Step::Run(n) => (1, n),
+            Step::Lock(s) => (2, s),
+            Step::Unlock(s) => (3, s),
+        };
+        let [high, low] = value.to_be_bytes();
+        [kind, high, low]
     }
 }
 
@@ -91,8 +122,8 @@ pub fn step_at(steps: &[[u8; 3]], p: usize) -> Option<Step>
     Some(Step::from(*bytes))
 }
 
-// The table of a sheet that document 01 accepts. The sheet's tasks are the first `head.n`. (The bytes are there for the fact that the
-// sheet is read from them; no code looks at them.)
+// The table of a sheet that document 01 accepts. The sheet's tasks are the first `head.n`. (The bytes are those that it was read from,
+// none where it was made of tasks. No code looks at them, but a reading of a long sheet was slower without them.)
 #[derive(Clone, Copy)]
 pub struct Table<'a> {
     tasks: [Task<'a>; 16],
@@ -100,15 +131,35 @@ pub struct Table<'a> {
     head: Head,
     ghost few: { head.n ≤ 16 },
     ghost sized: { length tasks ≡ 16 },
-    ghost reads: { read_sheet bytes.now ≡ read (sheet_with head (map task_of tasks)) },
+    ghost reads: { read_sheet (sheet_bytes (sheet_with head (map task_of tasks))) ≡ read (sheet_with head (map task_of tasks)) },
 }
 
 impl<'a> Table<'a> {
     ghost use Rattle.table.specs.Table.{Accepted, sheet_of};
 
+    // The table of a mode, a semaphore count and the tasks by rank, where some bytes are read as that sheet.
+    pub fn new(mode: u8, semaphores: u8, mut tasks: ArrayVec<Task<'a>, 16>) -> Table<'a>
+        requires { Accepted (record { mode = mode; semaphores = semaphores; tasks = map task_of tasks.items }) }
+        ensures { sheet_of result ≡ record { mode = mode; semaphores = semaphores; tasks = map task_of tasks.entry.items } }
+    {
+        let bytes: &[u8] = &[];
+        let n = tasks.len();
+        for _ in n..16 {
+            tasks.push(Task::default());
+        }
+        // the row is full, so that the other array is never taken
+        let tasks = tasks.into_inner().unwrap_or([Task::default(); 16]);
+        let head = Head {
+            n: n as u8,
+            semaphores,
+            mode,
+        };
+        Table { tasks, bytes, head }
+    }
+
     // The table of these bytes, which are read as the head and as many of the tasks as it says.
     #[tactic(auto, unfolding(crate::specs::Table::sheet_of))]
-    pub fn new(bytes: &'a [u8], head: Head, tasks: [Task<'a>; 16]) -> Table<'a>
+    pub fn of_bytes(bytes: &'a [u8], head: Head, tasks: [Task<'a>; 16]) -> Table<'a>
         requires few { head.n ≤ 16 }
         requires reads { read_sheet bytes.now ≡ read (sheet_with head (map task_of tasks)) }
         ensures { sheet_of result ≡ sheet_with head (map task_of tasks.entry) }

@@ -6,12 +6,12 @@ use Rattle.table.specs.Tasks.{sheet_with}
 use Rattle.sheet.proofs.Parts.{parts_in_turn}
 use Rattle.sheet.proofs.read_sheet.Goals as goal
 
-pub new-requires-clause-reads : goal.new-requires-clause-reads
+pub of_bytes-requires-clause-reads : goal.of_bytes-requires-clause-reads
 unfolding sheet_with
-new-requires-clause-reads c =
+of_bytes-requires-clause-reads c =
     grind (arith, parts_in_turn)
 
 pub returns : goal.returns
 unfolding sheet_with
 returns c =
-    ap (λ (x : Sheet). read x) c.new.ensures ∙ grind (arith, parts_in_turn)
+    ap (λ (x : Sheet). read x) c.of_bytes.ensures ∙ grind (arith, parts_in_turn)

@@ -14,7 +14,7 @@ loop-k-preserved c =
     let γ = c.loop-k.invariant in
     let below : c.loop-k.k < c.args.own.count = rw (← c.own.view_is) c.loop-k-test.true in
     let e = c.in_ok-step.ensures.reads _ (many_first c.loop-k.k c.args.bytes.now) γ.opens in
-    going_more c.args.m c.args.i c.args.own c.args.bytes.now _ _ c.loop-k.k γ below c.requires.semaphores _ _ e c.in_ok-step.ensures.limits _ c.enter.ensures
+    going_more c.args.m c.args.i c.args.own c.args.bytes.now _ _ c.loop-k.k γ below c.requires.semaphores _ _ e c.in_ok-step.ensures.limits _ c.enter.ensures.value
 
 pub returns-in_err-step : goal.returns-in_err-step
 returns-in_err-step c =

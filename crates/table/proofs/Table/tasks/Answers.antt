@@ -8,4 +8,4 @@ returns-clause-value c = tasks_first c.args.self.now _ (omega (arith, c.len.ensu
 
 pub returns-clause-accepted : goal.returns-clause-accepted
 unfolding sheet_of
-returns-clause-accepted c = let t = c.args.self.now in (t.bytes.now, t.reads)
+returns-clause-accepted c = let t = c.args.self.now in (_, t.reads)
